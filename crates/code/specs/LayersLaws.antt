@@ -1,12 +1,11 @@
 -- Laws of the layers, in the order of their definitions.
-use mathlib.Core.Path.{_≡_, refl, sym, ap, _∙_}
-use mathlib.Core.Bool.{Bool, true, false, cond}
-use mathlib.Core.List.{List, [], _∷_, _++_, map}
-use mathlib.Core.Logic.{_⊎_, ⊎-elim}
+use mathlib.Core.Path.{_≡_, refl, sym, ap}
+use mathlib.Core.Bool.{Bool, true, false}
+use mathlib.Core.List.{List, [], _∷_}
 use Prim.Native.Nat.{ℕ, zero, suc, _+_, _-_, _*_, _/_, _%_, _^_, _≤_, _<_}
-use native.Mathlib.Nat.{mod-lt, mod-one, pow-succ', le-antisymm, lt-of-not-le, le-of-suc-le-suc, add-zero, zero-add, add-suc, suc-add}
+use native.Mathlib.Nat.{mod-lt, mod-one, pow-succ', le-antisymm, lt-of-not-le, le-of-suc-le-suc, not-suc-le-zero, mul-suc, add-zero, zero-add, add-suc, suc-add}
 use native.Mathlib.Omega.{arith}
-use borrow.Author.Tests.{eq-eqb, ne-eqb, eqb-true, leb-true, leb-false}
+use borrow.Author.Tests.{leb-true, leb-false}
 use lib.Count.{leadingZeros, leading-length}
 use lib.Dec.{eqb, leb}
 use lib.ListN.{length, length-map, getD}
@@ -26,6 +25,11 @@ digit-bit s x = go (x / 2 ^ s % 2) (mod-lt (x / 2 ^ s) (omega arith))
 
 pub length-layer : (s : ℕ) (m : List ℕ) → length (layer s m) ≡ length m
 length-layer s m = simp length-map
+
+pub layer-at : (s : ℕ) (m : List ℕ) (i : ℕ) → i < length m → getD (layer s m) i false ≡ bit s (getD m i 0)
+layer-at s [] i h = absurd (not-suc-le-zero h)
+layer-at s (x ∷ m) zero h = refl
+layer-at s (x ∷ m) (suc i) h = layer-at s m i (le-of-suc-le-suc h)
 
 pub digit-below : (b : Bool) → digit b < 2
 digit-below true = omega arith
@@ -97,6 +101,12 @@ pub sum-cons : (b : Bool) (w : Word) → sumOfPlaces (b ∷ w) ≡ sumOfPlaces w
 unfolding sumOfPlaces sumFrom ones
 sum-cons true w = omega (arith, sumFrom-suc 1 w)
 sum-cons false w = omega (arith, sumFrom-suc 1 w)
+
+-- a sum of at most n places, each at most n
+pub sum-le : (n : ℕ) (w : Word) → length w ≤ n → sumOfPlaces w ≤ n * length w
+unfolding sumOfPlaces sumFrom
+sum-le n [] h = omega arith
+sum-le n (b ∷ w) h = omega (arith, sum-le n w (omega arith), sum-cons b w, ones-le (b ∷ w), mul-suc n (length w))
 
 pub syndrome-below : (w : Word) → 0 < length w → syndrome w < 2 * length w
 unfolding syndrome

@@ -1,7 +1,7 @@
 -- Levenshtein's result for modulus 2k: at most one word with a given syndrome is linked to a received one.
 use mathlib.Core.Path.{_≡_, refl, sym, ap, _∙_}
 use mathlib.Core.Bool.{Bool, true, false, not}
-use mathlib.Core.List.{List, [], _∷_, _++_}
+use mathlib.Core.List.{[], _∷_, _++_}
 use mathlib.Core.Logic.{_⊎_, inl, inr, ⊎-elim}
 use Prim.Native.Nat.{ℕ, zero, suc, _+_, _-_, _*_, _/_, _%_, _≤_, _<_}
 use native.Mathlib.Nat.{div-add-mod, mul-le-mul-left, mul-suc}
@@ -9,7 +9,7 @@ use native.Mathlib.Decide.{decLe}
 use native.Mathlib.Omega.{arith}
 use lib.ListN.{length, take}
 use Rattle.code.specs.declared.Link.{Link}
-use Rattle.code.specs.Layers.{Word, digit, ones, sumOfPlaces, syndrome}
+use Rattle.code.specs.Layers.{Word, ones, sumOfPlaces, syndrome}
 use Rattle.code.specs.LayersLaws.{sum-cons}
 use Rattle.code.specs.Links.{Without, here, there, Change, raised, lowered, later, Linked, same, changed, more, less}
 use Rattle.code.specs.LinksLaws.{without-length, without-ones, zero-growth, one-growth, growth, change-length, Place, change-place, raised-sum, lowered-sum}

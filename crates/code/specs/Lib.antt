@@ -6,3 +6,4 @@ pub mod LinksLaws
 pub mod Levenshtein
 pub mod Repair
 pub mod RepairLaws
+pub mod Places

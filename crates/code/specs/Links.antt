@@ -4,7 +4,7 @@
 --   Linked    what a received word may be, for each link
 --   sent      the sent word's length
 use mathlib.Core.Bool.{Bool, true, false}
-use mathlib.Core.List.{[], _∷_}
+use mathlib.Core.List.{_∷_}
 use Prim.Native.Nat.{ℕ, suc, _-_}
 use Rattle.code.specs.declared.Link.{Link}
 use Rattle.code.specs.declared.Link.the-variants.{Changed, More, Less}

@@ -1,0 +1,4 @@
+pub mod Running
+pub mod Tried
+pub mod Ahead
+pub mod Mending

@@ -1,0 +1,167 @@
+// The layers of a list of symbols: the number of syndrome symbols, sums of places, syndromes, and the repair of one layer.
+use code::Link;
+use code::Repair;
+ghost use mathlib.Core.Path.{_≡_};
+ghost use Prim.Native.Nat.{_+_, _*_, _%_, _<_, _≤_};
+ghost use lib.ListN.{length};
+ghost use Rattle.code.specs.Layers.{layer, bit, digit, sumOfPlaces, syndrome, width};
+ghost use Rattle.code.specs.Links.{sent};
+ghost use Rattle.code.specs.Repair.{repair, mended};
+ghost use Rattle.code.specs.declared.Link.the-variants.{Changed, More, Less};
+ghost use Rattle.layers.specs.Answers.{both, ahead};
+
+// A number for each layer.
+pub struct Layers {
+    pub high: usize,
+    pub low: usize,
+}
+
+// t, the number of syndrome symbols that k message symbols have.
+pub fn width_of(k: usize) -> usize
+    requires { ⌜ (0 < k) × (k < 65536) ⌝ }
+    ensures { λ r. ⌜ r ≡ width k ⌝ }
+{
+    (64 - usize::leading_zeros(2 * k - 1)) as usize
+}
+
+// The bit of a symbol that a layer holds, as a number.
+fn digit_of(symbol: u8, shift: u8) -> usize
+    requires { ⌜ shift < 8 ⌝ }
+    ensures { λ r. ⌜ (r ≡ digit (bit shift symbol)) × (r < 2) ⌝ }
+{
+    ((symbol >> shift) & 1) as usize
+}
+
+// The sum of places of each layer, formed by running sums from the last symbol to the first.
+pub fn sums(symbols: &[u8]) -> Layers
+    requires { ⌜ length (now symbols) < 65536 ⌝ }
+    ensures { λ r. ⌜ r ≡ both sumOfPlaces (now (symbols .entry)) ⌝ }
+{
+    let mut i = symbols.len();
+    let mut high_ones: usize = 0;
+    let mut low_ones: usize = 0;
+    let mut high: usize = 0;
+    let mut low: usize = 0;
+    while 0 < i {
+        i -= 1;
+        let x = symbols[i];
+        high_ones += digit_of(x, 1);
+        low_ones += digit_of(x, 0);
+        high += high_ones;
+        low += low_ones;
+    }
+    Layers { high, low }
+}
+
+// The syndrome of each layer.
+pub fn syndromes(symbols: &[u8]) -> Layers
+    requires { ⌜ (0 < length (now symbols)) × (length (now symbols) < 65536) ⌝ }
+    ensures { λ r. ⌜ r ≡ both syndrome (now (symbols .entry)) ⌝ }
+{
+    let s = sums(symbols);
+    let m = 2 * symbols.len();
+    Layers {
+        high: s.high % m,
+        low: s.low % m,
+    }
+}
+
+// The least number that leads from a to b modulo m.
+fn ahead_of(a: usize, b: usize, m: usize) -> usize
+    requires { ⌜ (0 < m) × (m < 131072) ⌝ }
+    ensures { λ r. ⌜ r ≡ ahead a b m ⌝ }
+{
+    (b % m + (m - a % m)) % m
+}
+
+// The repair of a layer with at most one changed bit: the step to the written syndrome names the only place.
+fn mend_changed(symbols: &[u8], shift: u8, sum: usize, written: usize) -> Repair
+    requires { ⌜ (shift < 8) × (0 < length (now symbols)) × (length (now symbols) < 65536) × (sum ≡ sumOfPlaces (layer shift (now symbols))) ⌝ }
+    ensures { λ r. ⌜ mended Changed (layer shift (now (symbols .entry))) r ≡ repair Changed written (layer shift (now (symbols .entry))) ⌝ }
+{
+    let k = symbols.len();
+    if 2 * k <= written {
+        return Repair::Nothing;
+    }
+    let d = ahead_of(sum, written, 2 * k);
+    if d == 0 {
+        return Repair::At(k, false);
+    }
+    if d < k {
+        let i = d - 1;
+        if digit_of(symbols[i], shift) == 0 {
+            return Repair::At(i, true);
+        }
+        return Repair::Nothing;
+    }
+    let i = 2 * k - d - 1;
+    if digit_of(symbols[i], shift) == 1 {
+        return Repair::At(i, false);
+    }
+    if d == k {
+        return Repair::At(i, true);
+    }
+    Repair::Nothing
+}
+
+// The repair of a layer with one bit more: the bit left out takes the ones behind it from the sum, and its own place if it is a one.
+fn mend_more(symbols: &[u8], shift: u8, sum: usize, written: usize) -> Repair
+    requires { ⌜ (shift < 8) × (2 < length (now symbols)) × (length (now symbols) < 65536) × (sum ≡ sumOfPlaces (layer shift (now symbols))) ⌝ }
+    ensures { λ r. ⌜ mended More (layer shift (now (symbols .entry))) r ≡ repair More written (layer shift (now (symbols .entry))) ⌝ }
+{
+    let mut i = symbols.len();
+    let m = 2 * (i - 1);
+    if m <= written {
+        return Repair::Nothing;
+    }
+    let d = ahead_of(written, sum, m);
+    let mut ones: usize = 0;
+    while 0 < i {
+        i -= 1;
+        let b = digit_of(symbols[i], shift);
+        if ones + b * (i + 1) == d {
+            return Repair::At(i, b == 1);
+        }
+        ones += b;
+    }
+    Repair::Nothing
+}
+
+// The repair of a layer with one bit less: the bit put in adds the ones behind it to the sum, and its own place if it is a one.
+fn mend_less(symbols: &[u8], shift: u8, sum: usize, written: usize) -> Repair
+    requires { ⌜ (shift < 8) × (length (now symbols) < 65535) × (sum ≡ sumOfPlaces (layer shift (now symbols))) ⌝ }
+    ensures { λ r. ⌜ mended Less (layer shift (now (symbols .entry))) r ≡ repair Less written (layer shift (now (symbols .entry))) ⌝ }
+{
+    let mut i = symbols.len();
+    let m = 2 * (i + 1);
+    if m <= written {
+        return Repair::Nothing;
+    }
+    let d = ahead_of(sum, written, m);
+    let mut ones: usize = 0;
+    loop {
+        if ones == d {
+            return Repair::At(i, false);
+        }
+        if ones + i + 1 == d {
+            return Repair::At(i, true);
+        }
+        if i == 0 {
+            return Repair::Nothing;
+        }
+        i -= 1;
+        ones += digit_of(symbols[i], shift);
+    }
+}
+
+// The repair of the layer `shift` of received symbols, given their sum of places in that layer and the written syndrome.
+pub fn mend(link: Link, symbols: &[u8], shift: u8, sum: usize, written: usize) -> Repair
+    requires { ⌜ (shift < 8) × (2 ≤ sent link (length (now symbols))) × (length (now symbols) < 65535) × (sum ≡ sumOfPlaces (layer shift (now symbols))) ⌝ }
+    ensures { λ r. ⌜ mended link (layer shift (now (symbols .entry))) r ≡ repair link written (layer shift (now (symbols .entry))) ⌝ }
+{
+    match link {
+        Link::Changed => mend_changed(symbols, shift, sum, written),
+        Link::More => mend_more(symbols, shift, sum, written),
+        Link::Less => mend_less(symbols, shift, sum, written),
+    }
+}
