@@ -1,4 +1,6 @@
+pub mod Lists
 pub mod Symbols
+pub mod SymbolsLaws
 pub mod Layers
 pub mod LayersLaws
 pub mod Links
