@@ -1,0 +1,111 @@
+// Runs the functions on the samples that are not proved as theorems; the file stdout has what they must give.
+use code::Decoded;
+use code::Letter;
+use libc::STDOUT_FILENO;
+
+fn word(text: &[u8]) {
+    io::write_all(STDOUT_FILENO, text);
+}
+
+fn number(n: u64) {
+    word(b" ");
+    io::print_decimal(STDOUT_FILENO, n);
+}
+
+fn symbol(x: u8) {
+    number(x as u64);
+}
+
+// The symbol of a byte.
+fn letter(byte: u8) {
+    let text = [byte];
+    word(b"letter ");
+    word(&text);
+    match symbols::symbol_of(byte) {
+        Letter::Symbol(s) => number(s as u64),
+        Letter::Foreign => word(b" foreign"),
+    }
+    word(b"\n");
+}
+
+// The four symbols of a byte.
+fn byte(x: u8) {
+    let bytes = [x];
+    let mut four = [0u8; 4];
+    symbols::unpack(&bytes, &mut four);
+    word(b"byte");
+    number(x as u64);
+    word(b" symbols");
+    symbol(four[0]);
+    symbol(four[1]);
+    symbol(four[2]);
+    symbol(four[3]);
+    word(b"\n");
+}
+
+// Whether a strand is letters throughout.
+fn strand(letters: &[u8]) {
+    let mut out = [0u8; 2048];
+    word(b"strand ");
+    word(letters);
+    if letters.len() <= 2048 {
+        match symbols::decode(letters, &mut out) {
+            Decoded::Whole => word(b" whole"),
+            Decoded::Foreign(i) => {
+                word(b" foreign at");
+                number(i as u64);
+            }
+        }
+    }
+    word(b"\n");
+}
+
+// The number of syndrome symbols of k message symbols.
+fn width(k: usize) {
+    if 0 < k {
+        if k < 65536 {
+            word(b"k");
+            number(k as u64);
+            word(b" t");
+            number(layers::width_of(k) as u64);
+            word(b"\n");
+        }
+    }
+}
+
+// The syndromes of both layers.
+fn syndromes(text: &[u8], message: &[u8]) {
+    if 0 < message.len() {
+        if message.len() < 65536 {
+            let s = layers::syndromes(message);
+            word(b"message ");
+            word(text);
+            word(b" syndromes");
+            number(s.high as u64);
+            number(s.low as u64);
+            word(b"\n");
+        }
+    }
+}
+
+fn main() {
+    letter(b'A');
+    letter(b'T');
+    letter(b'C');
+    letter(b'G');
+    letter(b'N');
+    letter(b'a');
+    byte(0x1B);
+    byte(0xE4);
+    byte(0xFF);
+    strand(b"ATCG");
+    strand(b"");
+    strand(b"ATNGN");
+    width(2);
+    width(3);
+    width(4);
+    width(5);
+    width(64);
+    syndromes(b"013", &[0, 1, 3]);
+    syndromes(b"210", &[2, 1, 0]);
+}
