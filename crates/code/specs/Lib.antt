@@ -9,3 +9,9 @@ pub mod Levenshtein
 pub mod Repair
 pub mod RepairLaws
 pub mod Places
+pub mod Segment
+pub mod Layout
+pub mod Refusals
+pub mod Writing
+pub mod Label
+pub mod Tallies

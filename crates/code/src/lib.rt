@@ -24,3 +24,48 @@ pub enum Repair {
     At(usize, bool),
     Nothing,
 }
+
+// Why a call is turned down, in the order of the numbers 1 to 9.
+pub enum Refusal {
+    SegmentLength,
+    MessageSize,
+    Cut,
+    Overlong,
+    ShortBuffer,
+    ForeignLetter(usize),
+    TallyFull,
+    Label,
+    NoSuchSegment,
+}
+
+// The outcome of a test: nothing against it, or why it is turned down.
+pub enum Checked {
+    Fine,
+    Refused(Refusal),
+}
+
+// What the writer answers: the number of letters written.
+pub enum Wrote {
+    Letters(usize),
+    Refused(Refusal),
+}
+
+// What reading a label answers: k and B.
+pub enum Order {
+    Is(usize, usize),
+    Refused(Refusal),
+}
+
+// How many strands were read, and their segments by mark.
+pub struct Tally {
+    pub strands: u32,
+    pub clean: u32,
+    pub corrected: u32,
+    pub lost: u32,
+}
+
+// What adding to a tally answers: the tally with the counts added.
+pub enum Tallied {
+    Sum(Tally),
+    Refused(Refusal),
+}

@@ -1,0 +1,77 @@
+-- What is turned down, and the limits.
+--   numberOf    the paper's number of a refusal
+--   placeOf     the place that a refusal names
+--   refuse      a test before others
+--   limits      k, B, the number of segments, the received strand
+--   orderTest   the tests 1, 2 and 3 of k and B
+use mathlib.Core.Bool.{Bool, true, false, not, _||_}
+use mathlib.Core.List.{List, _∷_}
+use Prim.Native.Nat.{ℕ, _*_, _/_, _%_}
+use lib.Dec.{eqb, ltb}
+use Rattle.code.specs.declared.Refusal.{Refusal}
+use Rattle.code.specs.declared.Refusal.the-variants.{SegmentLength, MessageSize, Cut, Overlong, ShortBuffer, ForeignLetter, TallyFull, Label, NoSuchSegment}
+use Rattle.code.specs.declared.Checked.{Checked}
+use Rattle.code.specs.declared.Checked.the-variants.{Fine, Refused}
+
+-- the number of a refusal
+abbrev pub numberOf : Refusal → ℕ
+numberOf SegmentLength = 1
+numberOf MessageSize = 2
+numberOf Cut = 3
+numberOf Overlong = 4
+numberOf ShortBuffer = 5
+numberOf (ForeignLetter i) = 6
+numberOf TallyFull = 7
+numberOf Label = 8
+numberOf NoSuchSegment = 9
+
+-- the place that a refusal names: the first foreign letter's, from 0
+abbrev pub placeOf : Refusal → ℕ
+placeOf SegmentLength = 0
+placeOf MessageSize = 0
+placeOf Cut = 0
+placeOf Overlong = 0
+placeOf ShortBuffer = 0
+placeOf (ForeignLetter i) = i
+placeOf TallyFull = 0
+placeOf Label = 0
+placeOf NoSuchSegment = 0
+
+-- a test before others: where it is met, its refusal
+abbrev pub refuse : Bool → Refusal → Checked → Checked
+refuse true r c = Refused r
+refuse false r c = c
+
+-- the smallest and the largest length k of a message
+abbrev pub leastLength : ℕ
+leastLength = 2
+
+abbrev pub mostLength : ℕ
+mostLength = 64
+
+-- the most bytes B of a strand's message
+abbrev pub mostBytes : ℕ
+mostBytes = 128
+
+-- the most segments of a strand
+abbrev pub mostSegments : ℕ
+mostSegments = 64
+
+-- the most letters of a received strand
+abbrev pub mostLetters : ℕ
+mostLetters = 2048
+
+-- x is outside low .. high
+abbrev pub outside : ℕ → ℕ → ℕ → Bool
+outside low high x = ltb x low || ltb high x
+
+-- 4B is not a multiple of k, or makes more segments than a strand has
+abbrev pub uneven : ℕ → ℕ → Bool
+uneven k b = not (eqb (4 * b % k) 0) || ltb mostSegments (4 * b / k)
+
+-- tests 1, 2 and 3, where `other` says that the message's length is not B, and then what follows
+abbrev pub orderTest : ℕ → ℕ → Bool → Checked → Checked
+orderTest k b other next =
+    refuse (outside leastLength mostLength k) SegmentLength
+    (refuse (outside 1 mostBytes b || other) MessageSize
+    (refuse (uneven k b) Cut next))
