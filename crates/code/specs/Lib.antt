@@ -1,5 +1,6 @@
 pub mod Lists
 pub mod Symbols
+pub mod BelowLaws
 pub mod SymbolsLaws
 pub mod Layers
 pub mod LayersLaws
@@ -10,7 +11,9 @@ pub mod Repair
 pub mod RepairLaws
 pub mod Places
 pub mod Segment
+pub mod SegmentLaws
 pub mod Layout
+pub mod LayoutLaws
 pub mod Refusals
 pub mod Writing
 pub mod Label
