@@ -18,3 +18,17 @@ pub mod Refusals
 pub mod Writing
 pub mod Label
 pub mod Tallies
+pub mod Edits
+pub mod EditsLaws
+pub mod JudgedLaws
+pub mod Reading
+pub mod ReadingLaws
+pub mod MessageLaws
+pub mod BlockLaws
+pub mod TailLaws
+pub mod StepLaws
+pub mod OpenLaws
+pub mod HitLaws
+pub mod Conditions
+pub mod Strands
+pub mod Samples
