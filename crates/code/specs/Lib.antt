@@ -12,6 +12,9 @@ pub mod Places
 pub mod Segment
 pub mod Layout
 pub mod Refusals
+pub mod RefusalsLaws
 pub mod Writing
 pub mod Label
+pub mod LabelLaws
 pub mod Tallies
+pub mod TalliesLaws
