@@ -15,9 +15,12 @@ pub mod SegmentLaws
 pub mod Layout
 pub mod LayoutLaws
 pub mod Refusals
+pub mod RefusalsLaws
 pub mod Writing
 pub mod Label
+pub mod LabelLaws
 pub mod Tallies
+pub mod TalliesLaws
 pub mod Edits
 pub mod EditsLaws
 pub mod JudgedLaws
