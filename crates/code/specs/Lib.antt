@@ -36,6 +36,8 @@ pub mod MessageEdits
 pub mod Conditions
 pub mod OneSegment
 pub mod Strands
+pub mod StrandsLaws
 pub mod Regained
 pub mod Demand3
+pub mod WithinLimits
 pub mod Samples
