@@ -41,3 +41,4 @@ pub mod Regained
 pub mod Demand3
 pub mod WithinLimits
 pub mod Samples
+pub mod Runs
