@@ -4,19 +4,21 @@
 --   tail-below     a tail's symbols are symbols
 --   tail-last      the last symbol of a segment
 --   marked-block   a segment is its marker and its block
+--   mark-size      a segment's length is that of its marker and its block
 --   put-both       two neighbouring blocks, spelled, are one
+--   put-segment    marker, message and tail, spelled, are the segment
 use mathlib.Core.Path.{_≡_, refl, sym, ap, _∙_}
 use mathlib.Core.Bool.{Bool, true, false}
-use mathlib.Core.List.{List, [], _∷_, _++_}
+use mathlib.Core.List.{List, [], _∷_, _++_, append-assoc}
 use Prim.Native.Nat.{ℕ, zero, suc, _+_, _-_, _<_, _≤_}
 use native.Mathlib.Omega.{arith}
-use lib.ListN.{length, getD, take}
+use lib.ListN.{length, getD, take, length-append}
 use lib.Seq.{getD-take}
 use Rattle.code.specs.Lists.{putAt, put-put}
 use Rattle.code.specs.Symbols.{Below}
 use Rattle.code.specs.Layers.{layer, syndrome, pair, bits, width}
-use Rattle.code.specs.Segment.{check, sep, separator, syndromeOf, block, segment, lastOf}
-use Rattle.code.specs.SegmentLaws.{check-below, separator-apart, syndrome-symbols-below, width-two}
+use Rattle.code.specs.Segment.{check, sep, separator, syndromeOf, marker, block, segment, lastOf, size}
+use Rattle.code.specs.SegmentLaws.{check-below, separator-apart, marker-apart, syndrome-symbols-below, width-two}
 use Rattle.layers.specs.declared.Layers.{Layers}
 use Rattle.layers.specs.Answers.{both}
 use Rattle.segment.specs.declared.Tail.{Tail}
@@ -57,8 +59,36 @@ unfolding mark segment
 marked-block true f m = refl
 marked-block false f m = refl
 
+-- the marker's two symbols are symbols
+pub twice-below : (f : ℕ) (m : List ℕ) (x : ℕ) → x ≡ marker f m → Below 4 (x ∷ x ∷ [])
+twice-below f m x e zero = omega (arith, marker-apart f m .below)
+twice-below f m x e (suc zero) = omega (arith, marker-apart f m .below)
+twice-below f m x e (suc (suc i)) = omega arith
+
+pub mark-true : (marked : Bool) (f : ℕ) (m : List ℕ) → marked ≡ true → mark marked f m ≡ marker f m ∷ marker f m ∷ []
+unfolding mark
+mark-true marked f m e = rw e
+
+pub mark-false : (marked : Bool) (f : ℕ) (m : List ℕ) → marked ≡ false → mark marked f m ≡ []
+unfolding mark
+mark-false marked f m e = rw e
+
+pub mark-size : (marked : Bool) (f : ℕ) (m : List ℕ) → length (mark marked f m) + (length m + (4 + width (length m))) ≡ size marked (length m)
+unfolding mark size
+mark-size true f m = refl
+mark-size false f m = refl
+
 -- two neighbouring blocks, spelled, are one
 pub put-both : (a d b c : List ℕ) (at n : ℕ) → n ≡ at + length b → n ≤ length d → putAt (putAt d at (spelled a b)) n (spelled a c) ≡ putAt d at (spelled a (b ++ c))
 put-both a d b c at n e h =
     let k : n ≡ at + length (spelled a b) = omega (arith, length-spelled a b) in
     rw (k, spelled-append a b c) (put-put d at (spelled a b) (omega arith) (spelled a c))
+
+-- marker, message and tail, spelled one behind the other, are the segment
+pub put-segment : (a d o₁ o₂ m : List ℕ) (marked : Bool) (f at start : ℕ) (t : Tail) → IsTail m t → at + size marked (length m) ≤ length d → start ≡ at + length (mark marked f m) → o₁ ≡ putAt d at (spelled a (mark marked f m)) → o₂ ≡ putAt o₁ start (spelled a m) → putAt o₂ (start + length m) (spelled a (tailOf t)) ≡ putAt d at (spelled a (segment marked f m))
+put-segment a d o₁ o₂ m marked f at start t tail room place e₁ e₂ =
+    let k = mark marked f m in
+    let n = mark-size marked f m in
+    let both : o₂ ≡ putAt d at (spelled a (k ++ m)) = e₂ ∙ rw e₁ (put-both a d k m at start place (omega arith)) in
+    let whole : k ++ m ++ tailOf t ≡ segment marked f m = append-assoc k m (tailOf t) ∙ rw (tail-symbols m t tail) (marked-block marked f m) in
+    rw (both, put-both a d (k ++ m) (tailOf t) at (start + length m) (simp length-append (omega arith)) (omega arith), whole)

@@ -1,51 +1,39 @@
+use mathlib.Core.Path.{_≡_, refl, ap, _∙_}
+use mathlib.Core.List.{List, [], _∷_}
+use Prim.Native.Nat.{ℕ, _+_}
+use native.Mathlib.Omega.{arith}
 use borrow.Author.Needs.{needs}
+use lib.ListN.{length, take}
+use lib.Seq.{length-take-le}
+use Rattle.code.specs.Lists.{putAt}
+use Rattle.code.specs.BelowLaws.{below-prefix, below-suffix}
+use Rattle.segment.specs.Tails.{tailOf}
+use Rattle.segment.specs.Spelling.{spelled}
+use Rattle.segment.proofs.Tails.{put-both}
 use Rattle.segment.proofs.put_tail.Statement.{statement}
 use Rattle.segment.proofs.put_tail.Tie as tie
-use Rattle.segment.proofs.put_tail.Reads as reads
-use Rattle.segment.proofs.put_tail.Lts as lts
-use Rattle.segment.proofs.put.Reads as put-reads
-
--- src/lib.rt:128:9
-slice-aggregate-put : tie.Need-slice-aggregate-put
-slice-aggregate-put c = search needs
-
--- src/lib.rt:128:5
-put-requires : tie.Need-put-requires
-put-requires c κs = ?
-
--- src/lib.rt:131:9
-array-share-prefix-syndrome : tie.Need-array-share-prefix-syndrome
-array-share-prefix-syndrome c = search needs
-
--- src/lib.rt:131:9
-slice-aggregate-put-2 : tie.Need-slice-aggregate-put-2
-slice-aggregate-put-2 c = ?
-
--- src/lib.rt:131:44
-add-put : tie.Need-add-put
-add-put c = search needs
-
--- src/lib.rt:131:5
-put-requires-2 : tie.Need-put-requires-2
-put-requires-2 c κs = ?
-
--- src/lib.rt:121:1
-same-length : tie.Need-same-length
-same-length c = search needs
-
--- src/lib.rt:121:1
-returns : tie.Need-returns
-returns c = ?
 
 pub put-tail-spec : {M : Type 1} → statement M
+unfolding tailOf
 put-tail-spec =
     tie.close
     (tie.spec
-    slice-aggregate-put
-    put-requires
-    array-share-prefix-syndrome
-    slice-aggregate-put-2
-    add-put
-    put-requires-2
-    same-length
-    returns)
+    (λ c. search needs)
+    (λ c κs.
+    let t = c .before .before .before .args .tail in
+    (below-prefix (t .check ∷ t .separator ∷ t .separator ∷ t .separator ∷ []) (take (t .width) (t .syndrome)) (c .before .before .before .pre .0), (search needs, omega arith)))
+    (λ c. search needs)
+    (λ c. let t = c .before .before .before .before .before .before .before .before .args .tail in omega (arith, length-take-le (t .width) (t .syndrome) (omega arith)))
+    (λ c. search needs)
+    (λ c κs.
+    let t = c .before .before .before .before .before .before .before .before .before .args .tail in
+    (below-suffix (t .check ∷ t .separator ∷ t .separator ∷ t .separator ∷ []) (take (t .width) (t .syndrome)) (c .before .before .before .before .before .before .before .before .before .pre .0), (search needs, omega (arith, length-take-le (t .width) (t .syndrome) (omega arith)))))
+    (λ c. search needs)
+    (λ c.
+    let a = c .before .before .before .before .before .before .before .before .before .before .before .before .args in
+    let t = a .tail in
+    let d = a .out .now in
+    let r = take (t .width) (t .syndrome) in
+    c .before .before .put2 .ensures
+    ∙ ap (λ (l : List ℕ). putAt l (a .at + 4) (spelled (a .alphabet .now) r)) (c .before .before .before .before .before .before .before .before .put .ensures)
+    ∙ put-both (a .alphabet .now) d (t .check ∷ t .separator ∷ t .separator ∷ t .separator ∷ []) r (a .at) (a .at + 4) refl (omega arith)))

@@ -1,59 +1,35 @@
+use mathlib.Core.Path.{_≡_, _∙_}
+use native.Mathlib.Omega.{arith}
 use borrow.Author.Needs.{needs}
+use lib.ListN.{length}
+use Rattle.code.specs.LayersLaws.{width-least}
+use Rattle.code.specs.SegmentLaws.{width-two}
+use Rattle.segment.proofs.Tails.{tail-below, tail-last, mark-size, put-segment}
 use Rattle.segment.proofs.write_segment.Statement.{statement}
 use Rattle.segment.proofs.write_segment.Tie as tie
-use Rattle.segment.proofs.write_segment.Reads as reads
-use Rattle.segment.proofs.write_segment.Lts as lts
-use Rattle.segment.proofs.put.Reads as put-reads
-use Rattle.segment.proofs.put_marker.Reads as put-marker-reads
-use Rattle.segment.proofs.put_tail.Reads as put-tail-reads
-use Rattle.segment.proofs.tail_of.Reads as tail-of-reads
-
--- src/lib.rt:141:9
-put-marker-requires : tie.Need-put-marker-requires
-put-marker-requires c κs = ?
-
--- src/lib.rt:142:5
-put-requires : tie.Need-put-requires
-put-requires c κs = ?
-
--- src/lib.rt:143:9
-tail-of-requires : tie.Need-tail-of-requires
-tail-of-requires c κs = search needs
-
--- src/lib.rt:144:35
-add-put-tail : tie.Need-add-put-tail
-add-put-tail c = ?
-
--- src/lib.rt:144:5
-put-tail-requires : tie.Need-put-tail-requires
-put-tail-requires c κs = ?
-
--- src/lib.rt:145:16
-sub-last : tie.Need-sub-last
-sub-last c = ?
-
--- src/lib.rt:147:5
-array-read-result : tie.Need-array-read-result
-array-read-result c = ?
-
--- src/lib.rt:135:1
-same-length : tie.Need-same-length
-same-length c = search needs
-
--- src/lib.rt:135:1
-returns : tie.Need-returns
-returns c = ?
 
 pub write-segment-spec : {M : Type 1} → statement M
 write-segment-spec =
     tie.close
     (tie.spec
-    put-marker-requires
-    put-requires
-    tail-of-requires
-    add-put-tail
-    put-tail-requires
-    sub-last
-    array-read-result
-    same-length
-    returns)
+    (λ c κs. let a = c .before .before .before .args in ((search needs, search needs), (search needs, omega (arith, mark-size (a .marked) (a .f) (a .message .now)))))
+    (λ c κs. let a = c .before .before .before .before .before .before .before .args in (c .before .before .before .before .before .before .before .pre .0, (search needs, omega (arith, mark-size (a .marked) (a .f) (a .message .now), c .before .before .before .put-marker .ensures .1))))
+    (λ c κs. search needs)
+    (λ c. let a = c .before .before .before .before .before .before .before .before .before .before .before .before .args in omega (arith, mark-size (a .marked) (a .f) (a .message .now), c .before .before .before .before .before .before .before .before .put-marker .ensures .1))
+    (λ c κs.
+    let a = c .before .before .before .before .before .before .before .before .before .before .before .before .args in
+    let e = c .before .tail-of .ensures in
+    let w = width-least (length (a .message .now)) .least 16 (omega arith) in
+    (tail-below (a .message .now) _ e, ((omega arith, e .room), (search needs, omega (arith, mark-size (a .marked) (a .f) (a .message .now), c .before .before .before .before .before .before .before .before .put-marker .ensures .1)))))
+    (λ c. omega (arith, c .before .before .before .before .before .tail-of .ensures .width, width-two (length (c .before .before .before .before .before .before .before .before .before .before .before .before .before .before .before .before .args .message .now)) (omega arith)))
+    (λ c. omega (arith, c .before .before .before .before .before .before .tail-of .ensures .width, width-least (length (c .before .before .before .before .before .before .before .before .before .before .before .before .before .before .before .before .before .args .message .now)) .least 16 (omega arith)))
+    (λ c. search needs)
+    (λ c.
+    let a = c .before .before .before .before .before .before .before .before .before .before .before .before .before .before .before .before .before .args in
+    let h = c .before .before .before .before .before .before .before .before .before .before .before .before .before .before .before .before .before .pre .1 in
+    let k = c .before .before .before .before .before .before .before .before .before .before .before .before .before .put-marker in
+    let t = c .before .before .before .before .before .before .tail-of in
+    let m = a .message .now in (
+      c .before .before .before .before .put-tail .ensures ∙ put-segment (a .alphabet .now) (a .out .now) _ _ m (a .marked) (a .f) (a .at) (k .result) (t .result) (t .ensures) (h .1 .1) (k .ensures .1) (k .ensures .0) (c .before .before .before .before .before .before .before .before .before .put .ensures),
+      tail-last m (t .result) (t .ensures) (h .0 .1),
+    )))
