@@ -1,0 +1,2 @@
+// Strands: what is turned down, and the writer.
+pub mod writer;
