@@ -16,5 +16,6 @@ pub mod Layout
 pub mod LayoutLaws
 pub mod Refusals
 pub mod Writing
+pub mod WritingLaws
 pub mod Label
 pub mod Tallies

@@ -6,6 +6,7 @@
 --   write-next    one more entry of a list that is being written
 --   write-all     the whole of the list is written
 --   drop-four     the next four entries of a list
+--   take-replicate    the front of equal entries
 --   putAt         a buffer after a block is put at a place
 --   tabulate      the values of a function at successive numbers
 --   tabulate-at   an entry of such a list
@@ -15,7 +16,7 @@ use Prim.Native.Nat.{ℕ, zero, suc, _+_, _<_, _≤_}
 use native.Mathlib.Nat.{zero-add, add-zero}
 use native.Mathlib.Numerals.{add-one}
 use native.Mathlib.Omega.{arith}
-use lib.ListN.{length, take, drop, getD, set, length-take, length-drop, length-append, take-append-drop}
+use lib.ListN.{length, take, drop, getD, set, replicate, length-take, length-drop, length-append, take-append-drop}
 use lib.Seq.{drop-cons, set-at, take-at, drop-at, take-length, length-take-le, drop-drop, take-add}
 
 module _ {A : Type 0} where
@@ -67,6 +68,12 @@ module _ {A : Type 0} where
     where
       step : (i k : ℕ) → k ≡ suc i → i < length l → drop i l ≡ getD l i z ∷ drop k l
       step i k e q = rw e (drop-cons l i z q)
+
+-- the front of equal entries
+pub take-replicate : {A : Type 0} (l n : ℕ) (x : A) → l ≤ n → take l (replicate n x) ≡ replicate l x
+take-replicate zero n x h = refl
+take-replicate (suc l) zero x h = absurd (omega arith)
+take-replicate (suc l) (suc n) x h = ap (λ r. x ∷ r) (take-replicate l n x (omega arith))
 
 -- the buffer d after the block b is put at place i
 unfoldable pub putAt : List ℕ → ℕ → List ℕ → List ℕ

@@ -31,3 +31,24 @@ pub fn write_layout(lengths: &[usize], symbols: &[u8], out: &mut [u8])
         i += 1;
     }
 }
+
+// The length of a strand of l segments of k message symbols.
+pub fn extent_of(k: usize, l: usize) -> usize
+    requires { ⌜ (0 < k) × (k < 65536) × (0 < l) × (l < 65536) ⌝ }
+    ensures { λ r. ⌜ r ≡ extent false (replicate l k) ⌝ }
+{
+    l * (k + layers::width_of(k) + 6) - 2
+}
+
+// The strand that carries bytes in l segments of k symbols, at the front of `out`.
+fn write_equal(k: usize, l: usize, message: &[u8], out: &mut [u8])
+    requires { ⌜ (2 ≤ k) × (k ≤ 64) × (l ≤ 64) ⌝ }
+    requires { ⌜ (length (now message) ≤ 128) × (l * k ≡ 4 * length (now message)) × (extent false (replicate l k) ≤ length (now out)) ⌝ }
+    ensures { λ _. ⌜ now (out .exit) ≡ strandOf (replicate l k) (now (message .entry)) ++ drop (extent false (replicate l k)) (now (out .entry)) ⌝ }
+{
+    let mut buffer = [0u8; 512];
+    symbols::unpack(message, &mut buffer);
+    let n = 4 * message.len();
+    let lengths = [k; 64];
+    write_layout(&lengths[..l], &buffer[..n], out);
+}
