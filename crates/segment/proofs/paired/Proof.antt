@@ -22,7 +22,7 @@ paired-spec =
     (λ c. omega arith)
     (λ c. omega arith)
     (λ c. omega arith)
-    (λ c. let n = c .before .before .args .t - 1 - c .before .loop .i in let h = mask-lt (c .before .before .args .high / 2 ^ n) 1 in omega arith)
+    (λ c. let n = c .before .before .args .t - 1 - c .before .loop .i in let h = mask-lt (c .before .before .args .high / 2 ^ n) 1 in let l = mask-lt (c .before .before .args .low / 2 ^ n) 1 in omega arith)
     (λ c. omega arith)
     (λ c. let n = c .before .before .args .t - 1 - c .before .loop .i in let h = mask-lt (c .before .before .args .high / 2 ^ n) 1 in let l = mask-lt (c .before .before .args .low / 2 ^ n) 1 in omega arith)
     (λ c. let n = c .before .before .args .t - 1 - c .before .loop .i in let h = mask-lt (c .before .before .args .high / 2 ^ n) 1 in let l = mask-lt (c .before .before .args .low / 2 ^ n) 1 in omega arith)
