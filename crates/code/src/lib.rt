@@ -69,3 +69,18 @@ pub enum Tallied {
     Sum(Tally),
     Refused(Refusal),
 }
+
+// How a piece differs from the segment written anew, with its place and symbol.
+pub enum Edit {
+    None,
+    Sub(usize, u8),
+    Del(usize, u8),
+    Ins(usize, u8),
+}
+
+// What is said of a segment: read with an edit, lost in a step, or lost for want of a start.
+pub enum Verdict {
+    Read(Edit),
+    Lost(u8),
+    NoStart,
+}

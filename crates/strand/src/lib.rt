@@ -1,2 +1,5 @@
-// Strands: what is turned down, and the writer.
+// The limits and refusals, the label, the tally, and the writer.
+pub mod label;
+pub mod refusal;
+pub mod tally;
 pub mod writer;
