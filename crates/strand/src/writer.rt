@@ -1,12 +1,16 @@
 // The writer: messages in segments, one behind the other, as letters.
+use code::Checked;
+use code::Refusal;
+use code::Wrote;
+use crate::refusal;
 ghost use mathlib.Core.Path.{_≡_};
 ghost use mathlib.Core.Bool.{false};
 ghost use mathlib.Core.List.{_++_};
 ghost use Prim.Native.Nat.{ℕ, _+_, _*_, _<_, _≤_};
 ghost use lib.ListN.{length, getD, drop, replicate};
 ghost use Rattle.code.specs.Symbols.{Below, letters};
-ghost use Rattle.code.specs.Layout.{sum, cut, strand, extent};
-ghost use Rattle.code.specs.Writing.{strandOf};
+ghost use Rattle.code.specs.Layout.{sum, cut, strand, extent, layoutOf};
+ghost use Rattle.code.specs.Writing.{strandOf, writeTest, wroteOf, bufferOf};
 ghost use Rattle.strand.specs.Lengths.{Lengths};
 
 // The strand of symbols cut by a list of lengths, as letters at the front of `out`.
@@ -51,4 +55,23 @@ fn write_equal(k: usize, l: usize, message: &[u8], out: &mut [u8])
     let n = 4 * message.len();
     let lengths = [k; 64];
     write_layout(&lengths[..l], &buffer[..n], out);
+}
+
+// The strand that carries a message of B bytes in segments of k symbols, at the front of `out`; or why it is turned down.
+pub fn write(k: u32, b: u32, message: &[u8], out: &mut [u8]) -> Wrote
+    ensures { λ r. ⌜ (r ≡ wroteOf (writeTest k b (now (message .entry)) (length (now (out .entry)))) (extent false (layoutOf k b))) × (now (out .exit) ≡ bufferOf (writeTest k b (now (message .entry)) (length (now (out .entry)))) (strandOf (layoutOf k b) (now (message .entry))) (now (out .entry))) ⌝ }
+{
+    let other = message.len() != b as usize;
+    let order = refusal::order_test(k, b, other);
+    if let Checked::Refused(r) = order {
+        return Wrote::Refused(r);
+    }
+    let length = k as usize;
+    let l = (4 * b / k) as usize;
+    let n = extent_of(length, l);
+    if out.len() < n {
+        return Wrote::Refused(Refusal::ShortBuffer);
+    }
+    write_equal(length, l, message, out);
+    Wrote::Letters(n)
 }
