@@ -104,7 +104,14 @@ pub fn put(block: &[u8], alphabet: &[u8; 4], out: &mut [u8], at: usize)
 }
 
 // The marker of a message at a place of `out`, where its segment has one; and the place behind it.
-fn put_marker(marked: bool, f: u8, message: &[u8], alphabet: &[u8; 4], out: &mut [u8], at: usize) -> usize
+fn put_marker(
+    marked: bool,
+    f: u8,
+    message: &[u8],
+    alphabet: &[u8; 4],
+    out: &mut [u8],
+    at: usize,
+) -> usize
     requires { ⌜ (f < 4) × (2 ≤ length (now message)) ⌝ }
     requires { ⌜ (length (now alphabet) ≡ 4) × (at + 2 ≤ length (now out)) ⌝ }
     ensures { λ r. ⌜ (now (out .exit) ≡ putAt (now (out .entry)) at (spelled (now (alphabet .entry)) (mark marked f (now (message .entry))))) × (r ≡ at + length (mark marked f (now (message .entry)))) ⌝ }
@@ -132,7 +139,14 @@ fn put_tail(tail: Tail, alphabet: &[u8; 4], out: &mut [u8], at: usize)
 }
 
 // The segment of a message at a place of `out`, spelled in an alphabet; f is the last symbol of the segment before, and the answer that of this one.
-pub fn write_segment(marked: bool, f: u8, message: &[u8], alphabet: &[u8; 4], out: &mut [u8], at: usize) -> u8
+pub fn write_segment(
+    marked: bool,
+    f: u8,
+    message: &[u8],
+    alphabet: &[u8; 4],
+    out: &mut [u8],
+    at: usize,
+) -> u8
     requires { ⌜ Below 4 (now message) ⌝ }
     requires { ⌜ (f < 4) × (2 ≤ length (now message)) × (length (now message) ≤ 4096) ⌝ }
     requires { ⌜ (length (now alphabet) ≡ 4) × (at + size marked (length (now message)) ≤ length (now out)) ⌝ }

@@ -1,8 +1,8 @@
 // The writer: messages in segments, one behind the other, as letters.
+use crate::refusal;
 use code::Checked;
 use code::Refusal;
 use code::Wrote;
-use crate::refusal;
 ghost use mathlib.Core.Path.{_≡_};
 ghost use mathlib.Core.Bool.{false};
 ghost use mathlib.Core.List.{_++_};

@@ -44,7 +44,7 @@ write-layout-spec =
     let l = c .before .before .before .before .before .loop in
     let s = c .before .before .before .before .before .before .before .before .before .args .symbols .now in
     let k = c .before .before .before .before .before .before .before .before .before .pre .0 (l .i) (omega arith) in
-    (below-take (l .from + getD (c .before .before .before .before .before .before .before .before .before .args .lengths .now) (l .i) 0 - l .from) (drop (l .from) s) (below-drop (l .from) s (c .before .before .before .before .before .before .before .before .before .pre .1 .0)), ((l .inv .symbol, omega arith, omega arith), (refl, rw (g .length-part) (g .letters)))))
+    (below-take (l .from + getD (c .before .before .before .before .before .before .before .before .before .args .lengths .now) (l .i) 0 - l .from) (drop (l .from) s) (below-drop (l .from) s (c .before .before .before .before .before .before .before .before .before .pre .1 .0)), ((omega arith, omega arith, omega arith), (refl, rw (g .length-part) (g .letters)))))
     (λ c κs. let k = c .before .before .before .before .before .before .before .before .before .before .before .before .pre .0 (c .before .before .before .before .before .before .before .before .loop .i) (omega arith) in (omega arith, omega arith))
     (λ c. let g = next (c .before .before .before .before .before .before .before .before) in omega (arith, c .size-of .ensures))
     (λ c. omega arith)
