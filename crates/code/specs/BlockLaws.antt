@@ -42,7 +42,7 @@ module _ {n : ℕ} where
   pub below-put : (i x : ℕ) (l : List ℕ) → x < n → Below n l → Below n (putIn i x l)
   below-put i x l hx h = below-append (take i l) (x ∷ drop i l) (below-take i l h) (below-cons x (drop i l) hx (below-drop i l h))
 
-leave-last : (y : List ℕ) (c : ℕ) → leaveOut (length y) (y ++ c ∷ []) ≡ y
+pub leave-last : (y : List ℕ) (c : ℕ) → leaveOut (length y) (y ++ c ∷ []) ≡ y
 leave-last [] c = refl
 leave-last (x ∷ y) c = ap (λ (l : List ℕ). x ∷ l) (leave-last y c)
 

@@ -4,7 +4,8 @@ use mathlib.Core.Bool.{Bool, true, false, cond, _&&_}
 use mathlib.Core.List.{List, [], _∷_, _++_}
 use mathlib.Core.Option.{Option, some, none}
 use Prim.Native.Nat.{ℕ, zero, suc, _+_, _-_, _≤_, _<_}
-use native.Mathlib.Nat.{not-suc-le-zero, le-of-suc-le-suc}
+use native.Mathlib.Decide.{decLe}
+use native.Mathlib.Nat.{lt-of-not-le, not-suc-le-zero, le-of-suc-le-suc}
 use native.Mathlib.Omega.{arith}
 use borrow.Author.Tests.{eq-eqb, eqb-true}
 use lib.Dec.{eqb}
@@ -17,11 +18,18 @@ use Rattle.code.specs.declared.Edit.the-variants.{None, Sub, Del, Ins}
 
 -- An edit in the first of two joined lists, or behind it
 
--- the place of an edit is at least n; None has no place
-pub data From (n : ℕ) : Edit → Type 0 where
-  sub : {i x : ℕ} → n ≤ i → From n (Sub i x)
-  del : {i x : ℕ} → n ≤ i → From n (Del i x)
-  ins : {i x : ℕ} → n ≤ i → From n (Ins i x)
+-- the place of an edit is at least n; no edit has no place
+abbrev pub From : ℕ → Edit → Type 0
+From n None = ⊥
+From n (Sub i x) = n ≤ i
+From n (Del i x) = n ≤ i
+From n (Ins i x) = n ≤ i
+
+pub from? : (n : ℕ) (e : Edit) → Dec (From n e)
+from? n None = no (λ p. p)
+from? n (Sub i x) = decLe n i
+from? n (Del i x) = decLe n i
+from? n (Ins i x) = decLe n i
 
 -- an edit with its place counted from n
 abbrev pub less : ℕ → Edit → Edit
@@ -70,14 +78,30 @@ put-right (suc i) x (y ∷ u) w h =
 
 -- an edit behind the first list changes the second
 pub applied-right : (e : Edit) (u w : List ℕ) → From (length u) e → applied e (u ++ w) ≡ u ++ applied (less (length u) e) w
-applied-right e u w (sub {i = i} {x = x} h) = set-right i x u w h
-applied-right e u w (del {i = i} h) = leave-right i u w h
-applied-right e u w (ins {i = i} {x = x} h) = put-right i x u w h
+applied-right None u w h = absurd h
+applied-right (Sub i x) u w h = set-right i x u w h
+applied-right (Del i x) u w h = leave-right i u w h
+applied-right (Ins i x) u w h = put-right i x u w h
 
 pub fits-right : (e : Edit) (n m : ℕ) → From n e → Fits e (n + m) → Fits (less n e) m
-fits-right e n m (sub h) f = (omega (arith, f .0), f .1)
-fits-right e n m (del h) f = omega arith
-fits-right e n m (ins h) f = (omega (arith, f .0), f .1)
+fits-right None n m h f = absurd h
+fits-right (Sub i x) n m h f = (omega (arith, f .0), f .1)
+fits-right (Del i x) n m h f = omega arith
+fits-right (Ins i x) n m h f = (omega (arith, f .0), f .1)
+
+-- an edit that is not behind the first n of n + m letters fits them
+pub fits-left : (e : Edit) (n m : ℕ) → Fits e (n + m) → (From n e → ⊥) → Fits e n
+fits-left None n m f o = tt
+fits-left (Sub i x) n m f o = (lt-of-not-le o, f .1)
+fits-left (Del i x) n m f o = lt-of-not-le o
+fits-left (Ins i x) n m f o = let l = lt-of-not-le o in (omega arith, f .1)
+
+-- an edit counted from n is behind m of them only if it is behind n + m
+pub from-less : (e : Edit) (n m : ℕ) → From m (less n e) → From n e → From (n + m) e
+from-less None n m h f = f
+from-less (Sub i x) n m h f = omega arith
+from-less (Del i x) n m h f = omega arith
+from-less (Ins i x) n m h f = omega arith
 
 -- Equal lists
 

@@ -96,19 +96,19 @@ follow-final (follows m ks r two) e = absurd (cons≢nil e)
 
 module _ (m : List ℕ) (two : 2 ≤ length m) (marked : Bool) (f : ℕ) (ks r : List ℕ) (fol : Follow (lastOf m) ks r) where
   -- what is received from the message on, and the segment's stretch
-  abbrev block : List ℕ → List ℕ
+  abbrev pub block : List ℕ → List ℕ
   block t = m ++ check m ∷ (t ++ r)
 
-  abbrev stretch : List ℕ → List ℕ
+  abbrev pub stretch : List ℕ → List ℕ
   stretch t = pre marked f m ++ (m ++ check m ∷ t)
 
-  abbrev s : ℕ
+  abbrev pub s : ℕ
   s = separator m
 
-  abbrev a : List ℕ
+  abbrev pub a : List ℕ
   a = syndromeOf m
 
-  parts : (t w : List ℕ) → pre marked f m ++ (m ++ check m ∷ (t ++ w)) ≡ stretch t ++ w
+  pub parts : (t w : List ℕ) → pre marked f m ++ (m ++ check m ∷ (t ++ w)) ≡ stretch t ++ w
   parts t w =
       sym (append-assoc (pre marked f m) (m ++ check m ∷ t) w ∙ ap (λ (l : List ℕ). pre marked f m ++ l) (append-assoc m (check m ∷ t) w))
 
@@ -116,7 +116,7 @@ module _ (m : List ℕ) (two : 2 ≤ length m) (marked : Bool) (f : ℕ) (ks r :
   length-stretch t = simp length-append (omega (arith, length-pre m marked f))
 
   -- the segment is read with its stretch for a piece
-  Good : List ℕ → Type 0
+  unfoldable pub Good : List ℕ → Type 0
   Good t = Reads marked m ks (pre marked f m ++ block t) (length (stretch t))
 
   -- a stretch that ends in z
@@ -330,3 +330,42 @@ module _ (m : List ℕ) (two : 2 ≤ length m) (marked : Bool) (f : ℕ) (ks r :
       let n : length v ≡ length m + 1 + 1 + 3 + width (length m) = length-append m (check m ∷ t) ∙ omega (arith, length-syndrome m) in
       let g = subst (λ (d : List ℕ). Settles late m r d) (sym q) (settles-front m x r (λ e. ne (sym e))) in
       subst (λ (d : List ℕ). Reads marked m ks (pre marked f m ++ d) (length (stretch t))) q (reads-settled m marked f ks v r late g n (follow-final fol))
+
+  -- separator and syndrome as written
+  abbrev pub tail : List ℕ
+  tail = s ∷ s ∷ s ∷ a
+
+  unhurt : Good tail
+  unhurt = level-same a (length-syndrome m)
+
+  -- a letter of the separator replaced, by itself or by another
+  either-way : (x : ℕ) (g : ℕ → List ℕ) → g s ≡ tail → ((x ≡ s → ⊥) → Good (g x)) → Good (g x)
+  either-way x g e h = go (ℕ-discrete x s)
+    where
+      go : Dec (x ≡ s) → Good (g x)
+      go (yes q) = subst Good (sym (ap g q ∙ e)) unhurt
+      go (no ne) = h ne
+
+  -- the separator's own letter put in at it stands before the syndrome
+  either-put : (x : ℕ) (g : ℕ → List ℕ) → g s ≡ s ∷ s ∷ s ∷ s ∷ a → ((x ≡ s → ⊥) → Good (g x)) → Good (g x) ⊎ Moved (g x)
+  either-put x g e h = go (ℕ-discrete x s)
+    where
+      go : Dec (x ≡ s) → Good (g x) ⊎ Moved (g x)
+      go (yes q) = subst (λ (l : List ℕ). Good l ⊎ Moved l) (sym (ap g q ∙ e)) (level-long 0 s (omega arith) (separator-apart m .below))
+      go (no ne) = inl (h ne)
+
+  -- a segment under an edit in separator or syndrome is read
+  pub tail-read : (e : Edit) → Fits e (3 + width (length m)) → Good (applied e tail) ⊎ Moved (applied e tail)
+  tail-read None h = inl unhurt
+  tail-read (Sub zero x) h = inl (either-way x (λ y. y ∷ s ∷ s ∷ a) refl (sub-first x))
+  tail-read (Sub (suc zero) x) h = inl (either-way x (λ y. s ∷ y ∷ s ∷ a) refl (sub-second x))
+  tail-read (Sub (suc (suc zero)) x) h = inl (either-way x (λ y. s ∷ s ∷ y ∷ a) refl (sub-third x))
+  tail-read (Sub (suc (suc (suc i))) x) h = inl (level-same (set a i x) (simp length-set (length-syndrome m)))
+  tail-read (Del zero x) h = inl del-one
+  tail-read (Del (suc zero) x) h = inl del-one
+  tail-read (Del (suc (suc zero)) x) h = inl del-one
+  tail-read (Del (suc (suc (suc i))) x) h = inl (level-short (leaveOut i a) (length-leave i a (omega (arith, length-syndrome m)) ∙ length-syndrome m))
+  tail-read (Ins zero x) h = either-put x (λ y. y ∷ s ∷ s ∷ s ∷ a) refl (ins-first x)
+  tail-read (Ins (suc zero) x) h = either-put x (λ y. s ∷ y ∷ s ∷ s ∷ a) refl (ins-second x)
+  tail-read (Ins (suc (suc zero)) x) h = either-put x (λ y. s ∷ s ∷ y ∷ s ∷ a) refl (ins-third x)
+  tail-read (Ins (suc (suc (suc i))) x) h = level-long i x (omega (arith, h .0)) (h .1)

@@ -33,6 +33,12 @@ pub mod TailLaws
 pub mod StepLaws
 pub mod OpenLaws
 pub mod HitLaws
+pub mod MessageEdits
 pub mod Conditions
+pub mod OneSegment
 pub mod Strands
+pub mod StrandsLaws
+pub mod Regained
+pub mod Demand3
+pub mod WithinLimits
 pub mod Samples

@@ -1,0 +1,79 @@
+-- A strand that keeps the one-edit conditions for an order within the limits is short enough to be read, and has no foreign letter.
+use mathlib.Core.Path.{_≡_, refl, sym, ap, _∙_}
+use mathlib.Core.Bool.{Bool, true, false}
+use mathlib.Core.List.{List, [], _∷_, _++_, map}
+use Prim.Native.Nat.{ℕ, zero, suc, _+_, _-_, _*_, _/_, _%_, _≤_, _<_}
+use native.Mathlib.Nat.{mul-add, mul-le-mul-left, mul-le-mul-right, mul-comm}
+use native.Mathlib.Omega.{arith}
+use lib.ListN.{length, replicate, length-append, length-take, length-drop, length-set, length-replicate}
+use Rattle.code.specs.declared.Edit.{Edit}
+use Rattle.code.specs.declared.Edit.the-variants.{None, Sub, Del, Ins}
+use Rattle.code.specs.declared.Decoded.the-variants as D
+use Rattle.code.specs.Symbols.{Below, symbols, letters, decoded}
+use Rattle.code.specs.SymbolsLaws.{symbols-below, length-symbols, decoded-letters}
+use Rattle.code.specs.BelowLaws.{below-append}
+use Rattle.code.specs.Layers.{width}
+use Rattle.code.specs.LayersLaws.{width-least}
+use Rattle.code.specs.Segment.{segment, lastOf, size}
+use Rattle.code.specs.SegmentLaws.{length-segment, segment-below}
+use Rattle.code.specs.Layout.{sum, cut, extent, layoutOf}
+use Rattle.code.specs.LayoutLaws.{Each, none, both, cut-lengths, length-cut, cut-below, extent-equal, layout-sum}
+use Rattle.code.specs.Refusals.{mostLetters}
+use Rattle.code.specs.RefusalsLaws.{Ordered}
+use Rattle.code.specs.Edits.{applied, Fits}
+use Rattle.code.specs.BlockLaws.{below-set, below-leave, below-put}
+use Rattle.code.specs.Conditions.{received, Allowed, OneEdit}
+
+-- an edit adds one letter at most
+applied-length : (e : Edit) (w : List ℕ) → length (applied e w) ≤ suc (length w)
+applied-length None w = omega arith
+applied-length (Sub i x) w = simp length-set (omega arith)
+applied-length (Del i x) w = simp (length-append, length-take, length-drop) (omega arith)
+applied-length (Ins i x) w = simp (length-append, length-take, length-drop) (omega arith)
+
+applied-below : (e : Edit) (w : List ℕ) → Fits e (length w) → Below 4 w → Below 4 (applied e w)
+applied-below None w f h = h
+applied-below (Sub i x) w f h = below-set i x w (f .1) h
+applied-below (Del i x) w f h = below-leave i w h
+applied-below (Ins i x) w f h = below-put i x w (f .1) h
+
+received-length : (marked : Bool) (f : ℕ) (ms : List (List ℕ)) (es : List Edit) → length (received marked f ms es) ≤ extent marked (map length ms) + length ms
+unfolding received extent
+received-length marked f [] es = omega arith
+received-length marked f (m ∷ ms) [] = omega arith
+received-length marked f (m ∷ ms) (e ∷ es) = simp length-append (omega (arith, applied-length e (segment marked f m), length-segment marked f m, received-length true (lastOf m) ms es))
+
+received-below : (marked : Bool) (f : ℕ) (ms : List (List ℕ)) (es : List Edit) → Each (Below 4) ms → Allowed marked f ms es → Below 4 (received marked f ms es)
+unfolding received
+received-below marked f [] es none h = λ i. omega arith
+received-below marked f (m ∷ ms) [] (both b bs) h = absurd h
+received-below marked f (m ∷ ms) (e ∷ es) (both b bs) h =
+    below-append (applied e (segment marked f m)) (received true (lastOf m) ms es) (applied-below e (segment marked f m) (h .0) (segment-below marked f m b))
+    (received-below true (lastOf m) ms es bs (h .2))
+
+-- the longest such strand has 1,406 letters
+extent-most : (k l : ℕ) → k ≤ 64 → 0 < l → l ≤ 64 → l * k ≤ 512 → extent false (replicate l k) + l ≤ 1406
+extent-most k l hk some hl hlk =
+    let t : width k ≤ 7 = width-least k .least 7 (omega arith) in
+    let p : l * (k + width k + 6) ≡ l * k + l * width k + l * 6 = mul-add l (k + width k) 6 ∙ ap (λ (x : ℕ). x + l * 6) (mul-add l k (width k)) in
+    let q : l * width k ≤ l * 7 = mul-le-mul-left l t in
+    omega (arith, extent-equal l k some)
+
+-- what a strand that keeps the conditions is for k and B within the limits
+pub record Readable (s : List ℕ) : Type 0 where
+  pub short : length s ≤ mostLetters
+  pub small : Below 4 s
+  pub no-foreign : decoded (letters s) ≡ D.Whole
+
+pub readable : (k b : ℕ) (other : Bool) (bs s : List ℕ) → Ordered k b other → length bs ≡ b → OneEdit (cut (layoutOf k b) (symbols bs)) s → Readable s
+readable k b other bs s o n e =
+    let ks = layoutOf k b in
+    let x = symbols bs in
+    let l : length x ≡ sum ks = length-symbols bs ∙ rw n (sym (layout-sum k b (o .multiple))) in
+    let w = received-length false 0 (cut ks x) (e .edits) in
+    let c = cut-lengths ks x l in
+    let r : length (received false 0 (cut ks x) (e .edits)) ≤ extent false ks + length ks = omega (arith, w, ap (extent false) c, length-cut ks x) in
+    let z = extent-most k (4 * b / k) (o .most-length) (o .some-segments) (o .most-segments) (omega (arith, o .whole, o .most-bytes)) in
+    let q = length-replicate (4 * b / k) k in
+    let d : Below 4 s = rw (e .stretches) at (received-below false 0 (cut ks x) (e .edits) (cut-below ks x (symbols-below bs)) (e .allowed)) in
+    record { short = omega (arith, r, z, q, ap length (e .stretches)); small = d; no-foreign = decoded-letters s d }
