@@ -17,6 +17,7 @@ pub mod LayoutLaws
 pub mod Refusals
 pub mod RefusalsLaws
 pub mod Writing
+pub mod WritingLaws
 pub mod Label
 pub mod LabelLaws
 pub mod Tallies

@@ -1,4 +1,4 @@
--- Laws of lists: buffers whose front is written entry by entry, and tables.
+-- Laws of lists: buffers whose front is written entry by entry, blocks put into a buffer, and tables.
 --   put-more      one more entry behind those already written
 --   put-four      four more entries behind them
 --   drop-inside   an entry is left, so the place is one of the list's
@@ -6,15 +6,18 @@
 --   write-next    one more entry of a list that is being written
 --   write-all     the whole of the list is written
 --   drop-four     the next four entries of a list
+--   take-replicate    the front of equal entries
+--   putAt         a buffer after a block is put at a place
 --   tabulate      the values of a function at successive numbers
 --   tabulate-at   an entry of such a list
 use mathlib.Core.Path.{_≡_, refl, sym, ap, _∙_}
-use mathlib.Core.List.{List, [], _∷_, _++_, append-assoc}
-use Prim.Native.Nat.{ℕ, zero, suc, _+_, _<_}
+use mathlib.Core.List.{List, [], _∷_, _++_, append-assoc, append-nil}
+use Prim.Native.Nat.{ℕ, zero, suc, _+_, _<_, _≤_}
+use native.Mathlib.Nat.{zero-add, add-zero}
 use native.Mathlib.Numerals.{add-one}
 use native.Mathlib.Omega.{arith}
-use lib.ListN.{length, take, drop, getD, set, length-drop, length-append}
-use lib.Seq.{drop-cons, set-at, take-length, length-take-le, drop-drop, take-add}
+use lib.ListN.{length, take, drop, getD, set, replicate, length-take, length-drop, length-append, take-append-drop}
+use lib.Seq.{drop-cons, set-at, take-at, drop-at, take-length, length-take-le, drop-drop, take-add}
 
 module _ {A : Type 0} where
   -- one more entry behind those already written
@@ -65,6 +68,58 @@ module _ {A : Type 0} where
     where
       step : (i k : ℕ) → k ≡ suc i → i < length l → drop i l ≡ getD l i z ∷ drop k l
       step i k e q = rw e (drop-cons l i z q)
+
+-- the front of equal entries
+pub take-replicate : {A : Type 0} (l n : ℕ) (x : A) → l ≤ n → take l (replicate n x) ≡ replicate l x
+take-replicate zero n x h = refl
+take-replicate (suc l) zero x h = absurd (omega arith)
+take-replicate (suc l) (suc n) x h = ap (λ r. x ∷ r) (take-replicate l n x (omega arith))
+
+-- the buffer d after the block b is put at place i
+unfoldable pub putAt : List ℕ → ℕ → List ℕ → List ℕ
+putAt d i b = take i d ++ b ++ drop (i + length b) d
+
+pub put-first : (d b : List ℕ) → putAt d 0 b ≡ b ++ drop (length b) d
+unfolding putAt
+put-first d b = rw (zero-add (length b))
+
+pub put-nothing : (d : List ℕ) (i : ℕ) → putAt d i [] ≡ d
+unfolding putAt
+put-nothing d i = rw (add-zero i, append-nil) (take-append-drop i d)
+
+module _ (d : List ℕ) (i : ℕ) (b : List ℕ) (room : i + length b ≤ length d) where
+  -- how long the part up to the block's end is
+  put-front : length (take i d ++ b) ≡ i + length b
+  put-front = simp (length-append, length-take) (omega arith)
+
+  pub length-put : length (putAt d i b) ≡ length d
+  unfolding putAt
+  length-put = simp (length-append (take i d ++ b), length-drop) (omega (arith, put-front))
+
+  pub take-put : take (i + length b) (putAt d i b) ≡ take i d ++ b
+  unfolding putAt
+  take-put = take-at (take i d ++ b) (drop (i + length b) d) (i + length b) put-front
+
+  pub drop-put : drop (i + length b) (putAt d i b) ≡ drop (i + length b) d
+  unfolding putAt
+  drop-put = drop-at (take i d ++ b) (drop (i + length b) d) (i + length b) put-front
+
+  -- two neighbouring puts are one put of the joined block
+  pub put-put : (c : List ℕ) → putAt (putAt d i b) (i + length b) c ≡ putAt d i (b ++ c)
+  unfolding putAt
+  put-put c = ap (λ (l : List ℕ). l ++ c ++ drop (i + length b + length c) (putAt d i b)) take-put ∙ rw (rest, append-assoc (take i d) b c)
+    where
+      rest : drop (i + length b + length c) (putAt d i b) ≡ drop (i + length (b ++ c)) d
+      rest =
+          let n : i + length (b ++ c) ≡ i + length b + length c = simp length-append (omega arith) in
+          rw n (sym (drop-drop (length c) (i + length b) (putAt d i b)) ∙ rw drop-put (drop-drop (length c) (i + length b) d))
+
+  -- one more entry behind a block
+  pub put-one : (v : ℕ) → i + length b < length d → set (putAt d i b) (i + length b) v ≡ putAt d i (b ++ v ∷ [])
+  unfolding putAt
+  put-one v h =
+      let n : i + length (b ++ v ∷ []) ≡ i + length b + 1 = simp length-append (omega arith) in
+      put-more (take i d ++ b) d (i + length b) v put-front h ∙ rw (n, append-assoc (take i d) b (v ∷ []))
 
 -- f i, f (i + 1), .., n values
 abbrev pub tabulate : (ℕ → ℕ) → ℕ → ℕ → List ℕ

@@ -1,2 +1,4 @@
 pub mod Bits
 pub mod Counts
+pub mod Written
+pub mod Equal

@@ -1,0 +1,174 @@
+// Writing one segment: its marker, the message, and what follows the message.
+ghost use mathlib.Core.Path.{_≡_};
+ghost use Prim.Native.Nat.{_+_, _<_, _≤_};
+ghost use lib.ListN.{length, getD, take};
+ghost use Rattle.code.specs.Lists.{putAt};
+ghost use Rattle.code.specs.Symbols.{Below};
+ghost use Rattle.code.specs.Layers.{pair, bits};
+ghost use Rattle.code.specs.Segment.{check, either, sep, segment, lastOf, size};
+ghost use Rattle.segment.specs.Tails.{mark, IsTail, tailOf};
+ghost use Rattle.segment.specs.Spelling.{spelled};
+
+// What follows a message: check, separator, and the first `width` symbols of `syndrome`.
+pub struct Tail {
+    pub check: u8,
+    pub separator: u8,
+    pub width: usize,
+    pub syndrome: [u8; 16],
+}
+
+// Whether x is b or c.
+fn is_either(x: u8, b: u8, c: u8) -> bool
+    ensures { λ r. ⌜ r ≡ either x b c ⌝ }
+{
+    if x == b {
+        return true;
+    }
+    x == c
+}
+
+// The separator function Sep.
+pub fn sep_of(a: u8, b: u8, c: u8) -> u8
+    requires { ⌜ a < 4 ⌝ }
+    ensures { λ r. ⌜ r ≡ sep a b c ⌝ }
+{
+    let two = (a + 2) % 4;
+    if !is_either(two, b, c) {
+        return two;
+    }
+    let three = (a + 3) % 4;
+    if !is_either(three, b, c) {
+        return three;
+    }
+    (a + 1) % 4
+}
+
+// The check of a message: the sum of its symbols modulo 4.
+pub fn check_of(message: &[u8]) -> u8
+    requires { ⌜ length (now message) ≤ 4096 ⌝ }
+    ensures { λ r. ⌜ r ≡ check (now (message .entry)) ⌝ }
+{
+    let mut sum: usize = 0;
+    let mut i = 0;
+    while i < message.len() {
+        sum += message[i] as usize;
+        i += 1;
+    }
+    (sum % 4) as u8
+}
+
+// Two numbers in t bits, the most significant first, paired bit by bit.
+fn paired(high: usize, low: usize, t: usize) -> [u8; 16]
+    requires { ⌜ t ≤ 16 ⌝ }
+    ensures { λ r. ⌜ (take t r ≡ pair (bits t high) (bits t low)) × (length r ≡ 16) ⌝ }
+{
+    let mut symbols = [0u8; 16];
+    let mut i = 0;
+    while i < t {
+        let shift = t - 1 - i;
+        symbols[i] = (2 * ((high >> shift) & 1) + ((low >> shift) & 1)) as u8;
+        i += 1;
+    }
+    symbols
+}
+
+// What follows a message.
+pub fn tail_of(message: &[u8]) -> Tail
+    requires { ⌜ (2 ≤ length (now message)) × (length (now message) ≤ 4096) ⌝ }
+    ensures { λ r. ⌜ IsTail (now (message .entry)) r ⌝ }
+{
+    let check = check_of(message);
+    let width = layers::width_of(message.len());
+    let s = layers::syndromes(message);
+    let syndrome = paired(s.high, s.low, width);
+    let separator = sep_of(check, syndrome[0], syndrome[1]);
+    Tail {
+        check,
+        separator,
+        width,
+        syndrome,
+    }
+}
+
+// A block of symbols at a place of `out`, spelled in an alphabet.
+pub fn put(block: &[u8], alphabet: &[u8; 4], out: &mut [u8], at: usize)
+    requires { ⌜ Below 4 (now block) ⌝ }
+    requires { ⌜ (length (now alphabet) ≡ 4) × (at + length (now block) ≤ length (now out)) ⌝ }
+    ensures { λ _. ⌜ now (out .exit) ≡ putAt (now (out .entry)) at (spelled (now (alphabet .entry)) (now (block .entry))) ⌝ }
+{
+    let mut i = 0;
+    while i < block.len() {
+        out[at + i] = alphabet[block[i] as usize];
+        i += 1;
+    }
+}
+
+// The marker of a message at a place of `out`, where its segment has one; and the place behind it.
+fn put_marker(
+    marked: bool,
+    f: u8,
+    message: &[u8],
+    alphabet: &[u8; 4],
+    out: &mut [u8],
+    at: usize,
+) -> usize
+    requires { ⌜ (f < 4) × (2 ≤ length (now message)) ⌝ }
+    requires { ⌜ (length (now alphabet) ≡ 4) × (at + 2 ≤ length (now out)) ⌝ }
+    ensures { λ r. ⌜ (now (out .exit) ≡ putAt (now (out .entry)) at (spelled (now (alphabet .entry)) (mark marked f (now (message .entry))))) × (r ≡ at + length (mark marked f (now (message .entry)))) ⌝ }
+{
+    if marked {
+        let m = sep_of(f, message[0], message[1]);
+        put(&[m, m], alphabet, out, at);
+        return at + 2;
+    }
+    at
+}
+
+// The tail of a message at a place of `out`.
+fn put_tail(tail: Tail, alphabet: &[u8; 4], out: &mut [u8], at: usize)
+    requires { ⌜ Below 4 (tailOf tail) ⌝ }
+    requires { ⌜ (tail .width ≤ 16) × (length (tail .syndrome) ≡ 16) ⌝ }
+    requires { ⌜ (length (now alphabet) ≡ 4) × (at + (4 + tail .width) ≤ length (now out)) ⌝ }
+    ensures { λ _. ⌜ now (out .exit) ≡ putAt (now (out .entry)) at (spelled (now (alphabet .entry)) (tailOf tail)) ⌝ }
+{
+    let s = tail.separator;
+    put(&[tail.check, s, s, s], alphabet, out, at);
+    let width = tail.width;
+    let syndrome = tail.syndrome;
+    put(&syndrome[..width], alphabet, out, at + 4);
+}
+
+// The segment of a message at a place of `out`, spelled in an alphabet; f is the last symbol of the segment before, and the answer that of this one.
+pub fn write_segment(
+    marked: bool,
+    f: u8,
+    message: &[u8],
+    alphabet: &[u8; 4],
+    out: &mut [u8],
+    at: usize,
+) -> u8
+    requires { ⌜ Below 4 (now message) ⌝ }
+    requires { ⌜ (f < 4) × (2 ≤ length (now message)) × (length (now message) ≤ 4096) ⌝ }
+    requires { ⌜ (length (now alphabet) ≡ 4) × (at + size marked (length (now message)) ≤ length (now out)) ⌝ }
+    ensures { λ r. ⌜ (now (out .exit) ≡ putAt (now (out .entry)) at (spelled (now (alphabet .entry)) (segment marked f (now (message .entry))))) × (r ≡ lastOf (now (message .entry))) ⌝ }
+{
+    let start = put_marker(marked, f, message, alphabet, out, at);
+    put(message, alphabet, out, start);
+    let tail = tail_of(message);
+    put_tail(tail, alphabet, out, start + message.len());
+    let last = tail.width - 1;
+    let syndrome = tail.syndrome;
+    syndrome[last]
+}
+
+// The length of a segment of k message symbols.
+pub fn size_of(marked: bool, k: usize) -> usize
+    requires { ⌜ (0 < k) × (k < 65536) ⌝ }
+    ensures { λ r. ⌜ r ≡ size marked k ⌝ }
+{
+    let n = k + (4 + layers::width_of(k));
+    if marked {
+        return 2 + n;
+    }
+    n
+}
