@@ -6,6 +6,7 @@
 --   puts      every word with one bit put in
 --   linked    every word that a link joins to a received one
 --   repair    the linked word with the written syndrome, or none
+--   mendedWord  a received word mended at a place
 --   mended    the word that an answer of a repair stands for
 use mathlib.Core.Bool.{Bool, true, false, not, cond}
 use mathlib.Core.List.{List, [], _∷_, _++_, map}
@@ -62,11 +63,13 @@ firstWith v (w ∷ ws) = cond (eqb (syndrome w) v) (some w) (firstWith v ws)
 unfoldable pub repair : Link → ℕ → Word → Option Word
 repair l v r = firstWith v (linked l r)
 
--- the word that an answer stands for: the bit b at place i of r is set, left out or put in; past the end nothing is set
+-- the received word r with the bit b set at place i, the bit there left out, or b put in before it; past the end nothing is set
+abbrev pub mendedWord : Link → Word → ℕ → Bool → Word
+mendedWord Changed r i b = set r i b
+mendedWord More r i b = leaveOut i r
+mendedWord Less r i b = putIn i b r
+
+-- the word that an answer stands for
 unfoldable pub mended : Link → Word → Repair → Option Word
-mended Changed r (At i b) = some (set r i b)
-mended More r (At i b) = some (leaveOut i r)
-mended Less r (At i b) = some (putIn i b r)
-mended Changed r Nothing = none
-mended More r Nothing = none
-mended Less r Nothing = none
+mended l r (At i b) = some (mendedWord l r i b)
+mended l r Nothing = none

@@ -2,12 +2,14 @@
 use mathlib.Core.Path.{_≡_, ap, _∙_}
 use mathlib.Core.Bool.{false}
 use mathlib.Core.List.{List, _∷_}
-use Prim.Native.Nat.{ℕ, suc, _+_, _*_, _≤_, _<_}
+use Prim.Native.Nat.{ℕ, suc, _+_, _*_, _^_, _≤_, _<_}
+use native.Mathlib.Nat.{pow-succ'}
 use native.Mathlib.Omega.{arith}
+use lib.Pow.{pow-mono}
 use lib.ListN.{length, getD, drop, length-drop, drop-of-length-le}
 use lib.Seq.{drop-cons}
-use Rattle.code.specs.Layers.{bit, layer, digit, ones, sumOfPlaces, sumFrom}
-use Rattle.code.specs.LayersLaws.{layer-at, length-layer, ones-le, sum-cons, sum-le}
+use Rattle.code.specs.Layers.{bit, layer, digit, ones, sumOfPlaces, sumFrom, number}
+use Rattle.code.specs.LayersLaws.{layer-at, length-layer, ones-le, sum-cons, sum-le, number-below}
 
 -- the ones of the layer from place i on, and the sum of their places counted from there
 pub record Running (s : ℕ) (m : List ℕ) (i o v : ℕ) : Type 0 where
@@ -54,3 +56,36 @@ module _ (s : ℕ) (m : List ℕ) where
 
   pub end : (i o v : ℕ) → i ≡ 0 → Running s m i o v → v ≡ sumOfPlaces (layer s m)
   end i o v e r = r .summed ∙ rw e
+
+-- the number that the layer writes from place i on, and the weight of the bit before it
+pub record Written (s : ℕ) (m : List ℕ) (i w v : ℕ) : Type 0 where
+  pub weighed : w ≡ 2 ^ length (drop i (layer s m))
+  pub written : v ≡ number (drop i (layer s m))
+
+module _ (s : ℕ) (m : List ℕ) where
+  pub written-begin : Written s m (length m) 1 0
+  unfolding number
+  written-begin =
+      let e = drop-of-length-le (layer s m) {i = length m} (omega (arith, length-layer s m)) in
+      record { weighed = rw e; written = rw e }
+
+  pub written-turn : (i j w v : ℕ) → i ≡ suc j → j < length m → Written s m i w v → Written s m j (w * 2) (v + digit (bit s (getD m j 0)) * w)
+  unfolding number
+  written-turn i j w v e h r =
+      let l = drop (suc j) (layer s m) in
+      let f = layer-step s m j h in
+      let p : w ≡ 2 ^ length l = r .weighed ∙ rw e in
+      let q : v ≡ number l = r .written ∙ rw e in
+      record {
+        weighed = rw f (omega (arith, pow-succ' 2 (length l)));
+        written = rw (f, ← p) (omega (arith, q));
+      }
+
+  pub written-few : (i w v : ℕ) → length m ≤ 16 → Written s m i w v → (w ≤ 65536) × (v < w)
+  written-few i w v h r =
+      let l = drop i (layer s m) in
+      let n : length l ≤ 16 = simp length-drop (omega (arith, length-layer s m)) in
+      (omega (arith, r .weighed, pow-mono n), omega (arith, r .weighed, r .written, number-below l))
+
+  pub written-end : (i w v : ℕ) → i ≡ 0 → Written s m i w v → v ≡ number (layer s m)
+  written-end i w v e r = r .written ∙ rw e

@@ -3,10 +3,11 @@ use code::Link;
 use code::Repair;
 ghost use mathlib.Core.Path.{_≡_};
 ghost use Prim.Native.Nat.{_+_, _*_, _%_, _<_, _≤_};
-ghost use lib.ListN.{length};
-ghost use Rattle.code.specs.Layers.{layer, bit, digit, sumOfPlaces, syndrome, width};
+ghost use mathlib.Core.Bool.{false};
+ghost use lib.ListN.{length, getD, take};
+ghost use Rattle.code.specs.Layers.{layer, bit, digit, pair, sumOfPlaces, syndrome, width, number};
 ghost use Rattle.code.specs.Links.{sent};
-ghost use Rattle.code.specs.Repair.{repair, mended};
+ghost use Rattle.code.specs.Repair.{repair, mended, mendedWord};
 ghost use Rattle.code.specs.declared.Link.the-variants.{Changed, More, Less};
 ghost use Rattle.layers.specs.Answers.{both, ahead};
 
@@ -163,5 +164,97 @@ pub fn mend(link: Link, symbols: &[u8], shift: u8, sum: usize, written: usize) -
         Link::Changed => mend_changed(symbols, shift, sum, written),
         Link::More => mend_more(symbols, shift, sum, written),
         Link::Less => mend_less(symbols, shift, sum, written),
+    }
+}
+
+// The number that each layer writes, the most significant bit first.
+pub fn numbers(symbols: &[u8]) -> Layers
+    requires { ⌜ length (now symbols) ≤ 16 ⌝ }
+    ensures { λ r. ⌜ r ≡ both number (now (symbols .entry)) ⌝ }
+{
+    let mut i = symbols.len();
+    let mut weight: usize = 1;
+    let mut high: usize = 0;
+    let mut low: usize = 0;
+    while 0 < i {
+        i -= 1;
+        let x = symbols[i];
+        high += digit_of(x, 1) * weight;
+        low += digit_of(x, 0) * weight;
+        weight *= 2;
+    }
+    Layers { high, low }
+}
+
+// The bit at place i of a layer with `bit` set at place `at`.
+fn changed_digit(symbols: &[u8], shift: u8, at: usize, bit: bool, i: usize) -> usize
+    requires { ⌜ (shift < 8) × (i < length (now symbols)) ⌝ }
+    ensures { λ r. ⌜ (r ≡ digit (getD (mendedWord Changed (layer shift (now (symbols .entry))) at bit) i false)) × (r < 2) ⌝ }
+{
+    if i == at {
+        return bit as usize;
+    }
+    digit_of(symbols[i], shift)
+}
+
+// The bit at place i of a layer with the bit at place `at` left out.
+fn more_digit(symbols: &[u8], shift: u8, at: usize, bit: bool, i: usize) -> usize
+    requires { ⌜ (shift < 8) × (i + 1 < length (now symbols)) ⌝ }
+    ensures { λ r. ⌜ (r ≡ digit (getD (mendedWord More (layer shift (now (symbols .entry))) at bit) i false)) × (r < 2) ⌝ }
+{
+    if i < at {
+        return digit_of(symbols[i], shift);
+    }
+    digit_of(symbols[i + 1], shift)
+}
+
+// The bit at place i of a layer with `bit` put in before place `at`.
+fn less_digit(symbols: &[u8], shift: u8, at: usize, bit: bool, i: usize) -> usize
+    requires { ⌜ (shift < 8) × (i ≤ length (now symbols)) ⌝ }
+    ensures { λ r. ⌜ (r ≡ digit (getD (mendedWord Less (layer shift (now (symbols .entry))) at bit) i false)) × (r < 2) ⌝ }
+{
+    if i < at {
+        if i < symbols.len() {
+            return digit_of(symbols[i], shift);
+        }
+        return bit as usize;
+    }
+    if i == at {
+        return bit as usize;
+    }
+    digit_of(symbols[i - 1], shift)
+}
+
+// The bit at place i of a mended layer.
+fn mended_digit(link: Link, symbols: &[u8], shift: u8, at: usize, bit: bool, i: usize) -> usize
+    requires { ⌜ (shift < 8) × (i < sent link (length (now symbols))) ⌝ }
+    ensures { λ r. ⌜ (r ≡ digit (getD (mendedWord link (layer shift (now (symbols .entry))) at bit) i false)) × (r < 2) ⌝ }
+{
+    match link {
+        Link::Changed => changed_digit(symbols, shift, at, bit, i),
+        Link::More => more_digit(symbols, shift, at, bit, i),
+        Link::Less => less_digit(symbols, shift, at, bit, i),
+    }
+}
+
+// Where a layer is mended, and the bit that belongs there.
+pub struct Fix {
+    pub at: usize,
+    pub bit: bool,
+}
+
+// The symbols whose layers are the two mended ones, in `out`.
+pub fn mended_pair(link: Link, symbols: &[u8], high: Fix, low: Fix, out: &mut [u8])
+    requires { ⌜ length (now out) ≡ sent link (length (now symbols)) ⌝ }
+    requires { ⌜ length (mendedWord link (layer 1 (now symbols)) (high .at) (high .bit)) ≡ length (now out) ⌝ }
+    requires { ⌜ length (mendedWord link (layer 0 (now symbols)) (low .at) (low .bit)) ≡ length (now out) ⌝ }
+    ensures { λ _. ⌜ now (out .exit) ≡ pair (mendedWord link (layer 1 (now (symbols .entry))) (high .at) (high .bit)) (mendedWord link (layer 0 (now (symbols .entry))) (low .at) (low .bit)) ⌝ }
+{
+    let mut i = 0;
+    while i < out.len() {
+        let h = mended_digit(link, symbols, 1, high.at, high.bit, i);
+        let l = mended_digit(link, symbols, 0, low.at, low.bit, i);
+        out[i] = (2 * h + l) as u8;
+        i += 1;
     }
 }

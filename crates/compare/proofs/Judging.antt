@@ -1,0 +1,169 @@
+-- What the first difference and the rest behind it tell of the judgement.
+use mathlib.Core.Path.{_≡_, refl, sym, ap, subst, _∙_}
+use mathlib.Core.Bool.{true, false, true≢false}
+use mathlib.Core.List.{List}
+use mathlib.Core.Option.{some, none}
+use Prim.Native.Nat.{ℕ, suc, _+_, _-_, _≤_, _<_}
+use native.Mathlib.Decide.{decLe}
+use native.Mathlib.Nat.{lt-of-not-le}
+use native.Mathlib.Numerals.{add-one}
+use native.Mathlib.Omega.{arith}
+use lib.ListN.{length, getD, take, drop, set, length-drop, length-set, take-append-drop}
+use lib.Seq.{take-all, set-getD, set-split, split-at}
+use Rattle.code.specs.Repair.{putIn, leaveOut}
+use Rattle.code.specs.BlockLaws.{length-leave, length-put}
+use Rattle.code.specs.Edits.{judged}
+use Rattle.code.specs.JudgedLaws.{Misses, judged-same, judged-missed, judged-sub, judged-del, judged-ins}
+use Rattle.code.specs.Reading.{starts}
+use Rattle.code.specs.declared.Edit.the-variants.{None, Sub, Del, Ins}
+use Rattle.compare.specs.Judgement.{common, runStart}
+use Rattle.compare.proofs.Leaving.{leave-low, leave-high, leave-put, put-leave, leave-past, leave-le, leave-ge}
+use Rattle.compare.proofs.Standing.{starts-equal, starts-whole}
+use Rattle.compare.proofs.Sharing.{shared, shared-at, common-self, common-sym, set-rest, leave-rest, Run, run}
+
+-- Which edits the lengths rule out
+
+module _ (w v : List ℕ) (j : ℕ) (inside : j ≤ length w) where
+  put-length : putIn j (getD v j 0) w ≡ v → length v ≡ suc (length w)
+  put-length e = sym (ap length e) ∙ length-put j (getD v j 0) w inside
+
+  set-length : set w j (getD v j 0) ≡ v → length v ≡ length w
+  set-length e = sym (ap length e) ∙ length-set w j (getD v j 0)
+
+  miss-changed : length v ≡ length w → (w ≡ v → ⊥) → (set w j (getD v j 0) ≡ v → ⊥) → Misses w v j
+  miss-changed n differ m = record { sub = m; del = λ e. go e (decLe (length w) j); ins = λ e. omega (arith, put-length e) }
+    where
+      go : leaveOut j w ≡ v → Dec (length w ≤ j) → ⊥
+      go e (yes h) = differ (sym (leave-past j w h) ∙ e)
+      go e (no h) = let l = lt-of-not-le h in omega (arith, ap length e, length-leave j w l)
+
+  miss-less : length v + 1 ≡ length w → (leaveOut j w ≡ v → ⊥) → Misses w v j
+  miss-less n m = record { sub = λ e. omega (arith, set-length e); del = m; ins = λ e. omega (arith, put-length e) }
+
+  miss-more : length v ≡ length w + 1 → (putIn j (getD v j 0) w ≡ v → ⊥) → Misses w v j
+  miss-more n m = record { sub = λ e. omega (arith, set-length e); del = λ e. omega (arith, ap length e, leave-le j w); ins = m }
+
+  miss-far : (length v ≡ length w → ⊥) → (length v + 1 ≡ length w → ⊥) → (length v ≡ length w + 1 → ⊥) → Misses w v j
+  miss-far n n′ n″ =
+      record {
+        sub = λ e. n (set-length e);
+        del = λ e. let q = ap length e in let a = leave-le j w in let b = leave-ge j w in omega arith;
+        ins = λ e. n″ (omega (arith, put-length e));
+      }
+
+-- As many letters
+
+-- the list from place n on, as a part of a slice
+abbrev from : List ℕ → ℕ → List ℕ
+from l n = take (length l - n) (drop n l)
+
+from-is : (l : List ℕ) (n : ℕ) → from l n ≡ drop n l
+from-is l n = take-all (length l - n) (drop n l) (omega (arith, length-drop n l))
+
+module _ (w v : List ℕ) (i : ℕ) (as-many : length v ≡ length w) (found : i ≡ common w v) where
+  pub changed-none : length w ≤ i → judged w v ≡ some None
+  changed-none h =
+      let s = shared w v in
+      judged-same w v (sym (take-all (common w v) w (omega arith)) ∙ s .front ∙ take-all (common w v) v (omega arith))
+
+  module _ (inside : i < length w) where
+    differ : w ≡ v → ⊥
+    differ e = omega (arith, common-self w v e)
+
+    pub changed-sub : starts (from w (i + 1)) (drop (i + 1) v) ≡ true → judged w v ≡ some (Sub i (getD v i 0))
+    changed-sub t =
+        let n : length (from w (i + 1)) ≡ length (drop (i + 1) v) = rw from-is (simp length-drop (omega arith)) in
+        let r : drop (suc i) w ≡ drop (suc i) v = rw (← add-one) (sym (from-is w (i + 1)) ∙ starts-whole (from w (i + 1)) (drop (i + 1) v) n t) in
+        let f : take i w ≡ take i v = rw found (shared w v .front) in
+        let k : i < length v = omega arith in
+        judged-sub w v differ i (omega arith)
+        (λ j l. miss-changed w v j (omega arith) as-many differ (λ e. differ (sym (set-getD w j 0) ∙ ap (λ (x : ℕ). set w j x) (shared-at w v j (omega arith)) ∙ e)))
+        (set-split w i (getD v i 0) inside ∙ rw (f, r) (sym (split-at v i 0 k)))
+
+    pub changed-many : starts (from w (i + 1)) (drop (i + 1) v) ≡ false → judged w v ≡ none
+    changed-many t = judged-missed w v differ (λ j l. miss-changed w v j l as-many differ (λ e. true≢false (sym (starts-equal (from w (i + 1)) (drop (i + 1) v) (from-is w (i + 1) ∙ rest j e)) ∙ t)))
+      where
+        rest : (j : ℕ) → set w j (getD v j 0) ≡ v → drop (i + 1) w ≡ drop (i + 1) v
+        rest j e = rw (add-one, found) (subst (λ (u : List ℕ). drop (suc (common w u)) w ≡ drop (suc (common w u)) u) e (set-rest j (getD v j 0) w))
+
+-- One letter left out of the longer of two lists
+
+module _ (long short : List ℕ) (i : ℕ) (one : length short + 1 ≡ length long) (found : i ≡ common long short) where
+  within : i < length long
+  within = let s = shared long short in omega arith
+
+  -- the rest behind the first difference agrees
+  module _ (t : starts (from long (i + 1)) (drop i short) ≡ true) where
+    gone : leaveOut i long ≡ short
+    gone =
+        let s = shared long short in
+        let n : length (from long (i + 1)) ≡ length (drop i short) = rw from-is (simp length-drop (omega arith)) in
+        let r : drop (suc i) long ≡ drop i short = rw (← add-one) (sym (from-is long (i + 1)) ∙ starts-whole (from long (i + 1)) (drop i short) n t) in
+        let f : take i long ≡ take i short = rw found (s .front) in
+        rw (f, r) (take-append-drop i short)
+
+    module _ (p : ℕ) (start : p ≡ runStart long (getD long i 0) i) where
+      the-run : Run long (getD long i 0) i p
+      the-run = rw start (run long (getD long i 0) i within refl)
+
+      first-gone : leaveOut p long ≡ short
+      first-gone = the-run .left ∙ gone
+
+      before-gone : (j : ℕ) → j < p → leaveOut j long ≡ short → ⊥
+      before-gone j l e =
+          let q : p ≡ suc (p - 1) = omega arith in
+          the-run .first (p - 1) q
+          (sym (leave-low p (p - 1) long (omega arith)) ∙ ap (λ (u : List ℕ). getD u (p - 1) 0) (first-gone ∙ sym e) ∙ leave-high j (p - 1) long (omega arith) ∙ rw (← q) (the-run .at))
+
+  never-gone : starts (from long (i + 1)) (drop i short) ≡ false → (j : ℕ) → leaveOut j long ≡ short → ⊥
+  never-gone t j e = true≢false (sym (starts-equal (from long (i + 1)) (drop i short) (from-is long (i + 1) ∙ rest)) ∙ t)
+    where
+      rest : drop (i + 1) long ≡ drop i short
+      rest = rw (add-one, found) (subst (λ (u : List ℕ). drop (suc (common long u)) long ≡ drop (common long u) u) e (leave-rest j long))
+
+-- One letter less
+
+module _ (w v : List ℕ) (i : ℕ) (less : length v + 1 ≡ length w) (found : i ≡ common w v) where
+  shorter : w ≡ v → ⊥
+  shorter e = omega (arith, ap length e)
+
+  pub less-del : starts (from w (i + 1)) (drop i v) ≡ true → (p : ℕ) → p ≡ runStart w (getD w i 0) i → p ≤ i → judged w v ≡ some (Del p (getD w p 0))
+  less-del t p start h =
+      let b = within w v i less found in
+      judged-del w v shorter p (omega arith)
+      (λ j l. miss-less w v j (omega arith) less (before-gone w v i less found t p start j l))
+      (λ e. omega (arith, set-length w v p (omega arith) e))
+      (first-gone w v i less found t p start)
+
+  pub less-many : starts (from w (i + 1)) (drop i v) ≡ false → judged w v ≡ none
+  less-many t = judged-missed w v shorter (λ j l. miss-less w v j l less (never-gone w v i less found t j))
+
+-- One letter more: the piece without it is the segment
+
+module _ (w v : List ℕ) (i : ℕ) (more : length v ≡ length w + 1) (found : i ≡ common w v) where
+  longer : w ≡ v → ⊥
+  longer e = omega (arith, ap length e)
+
+  turned : i ≡ common v w
+  turned = found ∙ common-sym w v
+
+  out : (j : ℕ) → j ≤ length w → putIn j (getD v j 0) w ≡ v → leaveOut j v ≡ w
+  out j h e = ap (λ (u : List ℕ). leaveOut j u) (sym e) ∙ leave-put j (getD v j 0) w h
+
+  pub more-ins : starts (from v (i + 1)) (drop i w) ≡ true → (p : ℕ) → p ≡ runStart v (getD v i 0) i → p ≤ i → judged w v ≡ some (Ins p (getD v p 0))
+  more-ins t p start h =
+      let b = within v w i (sym more) turned in
+      let g = first-gone v w i (sym more) turned t p start in
+      judged-ins w v longer p (omega arith)
+      (λ j l. miss-more w v j (omega arith) more (λ e. before-gone v w i (sym more) turned t p start j l (out j (omega arith) e)))
+      (λ e. omega (arith, set-length w v p (omega arith) e))
+      (λ e. omega (arith, ap length e, leave-le p w))
+      (ap (λ (u : List ℕ). putIn p (getD v p 0) u) (sym g) ∙ put-leave p v (omega arith))
+
+  pub more-many : starts (from v (i + 1)) (drop i w) ≡ false → judged w v ≡ none
+  more-many t = judged-missed w v longer (λ j l. miss-more w v j l more (λ e. never-gone v w i (sym more) turned t j (out j l e)))
+
+-- Lengths further apart
+
+pub far-many : (w v : List ℕ) → (length v ≡ length w → ⊥) → (length v + 1 ≡ length w → ⊥) → (length v ≡ length w + 1 → ⊥) → judged w v ≡ none
+far-many w v n n′ n″ = judged-missed w v (λ e. n (sym (ap length e))) (λ j l. miss-far w v j l n n′ n″)

@@ -1,0 +1,104 @@
+-- Tests at a place, by the letters there.
+use mathlib.Core.Path.{_≡_, refl}
+use mathlib.Core.Bool.{Bool, true, false, _&&_}
+use mathlib.Core.List.{List, [], _∷_, append-nil}
+use Prim.Native.Nat.{ℕ, suc, _+_, _-_, _≤_, _<_}
+use native.Mathlib.Numerals.{add-one}
+use native.Mathlib.Omega.{arith}
+use borrow.Author.Tests.{eq-eqb, ne-eqb}
+use lib.Dec.{eqb}
+use lib.ListN.{length, getD, drop, length-drop, drop-of-length-le}
+use lib.Seq.{drop-cons}
+use Rattle.code.specs.Reading.{starts, twoEqual, threeEqual}
+use Rattle.code.specs.ReadingLaws.{starts-self, starts-is}
+
+and-true : (a : Bool) → (a && true) ≡ a
+and-true true = refl
+and-true false = refl
+
+and-false : (a b : Bool) → b ≡ false → (a && b) ≡ false
+and-false true b e = e
+and-false false b e = refl
+
+-- a list that is too short passes no test
+
+two-short : (l : List ℕ) → length l ≤ 1 → twoEqual l ≡ false
+unfolding twoEqual
+two-short [] h = refl
+two-short (x ∷ []) h = refl
+two-short (x ∷ y ∷ l) h = absurd (omega arith)
+
+three-short : (l : List ℕ) → length l ≤ 2 → threeEqual l ≡ false
+unfolding threeEqual
+three-short [] h = refl
+three-short (x ∷ []) h = refl
+three-short (x ∷ y ∷ []) h = refl
+three-short (x ∷ y ∷ z ∷ l) h = absurd (omega arith)
+
+starts-short : (b l : List ℕ) → length l < length b → starts b l ≡ false
+unfolding starts
+starts-short [] l h = absurd (omega arith)
+starts-short (x ∷ b) [] h = refl
+starts-short (x ∷ b) (y ∷ l) h = and-false (eqb x y) (starts b l) (starts-short b l (omega arith))
+
+module _ (s : List ℕ) (at : ℕ) where
+  pub one-inside : (x : ℕ) → at < length s → starts (x ∷ []) (drop at s) ≡ eqb x (getD s at 0)
+  unfolding starts
+  one-inside x h = rw (drop-cons s at 0) (and-true (eqb x (getD s at 0)))
+
+  pub one-past : (x : ℕ) → length s ≤ at → starts (x ∷ []) (drop at s) ≡ false
+  one-past x h = starts-short (x ∷ []) (drop at s) (simp length-drop (omega arith))
+
+  pub two-inside : at + 1 < length s → twoEqual (drop at s) ≡ eqb (getD s at 0) (getD s (at + 1) 0)
+  unfolding twoEqual
+  two-inside h =
+      let k : at < length s = omega arith in
+      let l : suc at < length s = omega arith in
+      rw (add-one, drop-cons s at 0 k, drop-cons s (suc at) 0 l)
+
+  pub two-past : length s ≤ at + 1 → twoEqual (drop at s) ≡ false
+  two-past h = two-short (drop at s) (simp length-drop (omega arith))
+
+  pub three-inside : at + 2 < length s → threeEqual (drop at s) ≡ (eqb (getD s at 0) (getD s (at + 1) 0) && eqb (getD s (at + 1) 0) (getD s (at + 2) 0))
+  unfolding threeEqual
+  three-inside h =
+      let k : at < length s = omega arith in
+      let l : suc at < length s = omega arith in
+      let m : suc (suc at) < length s = omega arith in
+      let e : at + 1 ≡ suc at = omega arith in
+      let f : at + 2 ≡ suc (suc at) = omega arith in
+      rw (e, f, drop-cons s at 0 k, drop-cons s (suc at) 0 l, drop-cons s (suc (suc at)) 0 m)
+
+  pub three-past : length s ≤ at + 2 → threeEqual (drop at s) ≡ false
+  three-past h = three-short (drop at s) (simp length-drop (omega arith))
+
+  -- the block b, compared letter by letter
+  module _ (b : List ℕ) where
+    pub block-past : length s - at < length b → starts b (drop at s) ≡ false
+    block-past h = starts-short b (drop at s) (simp length-drop (omega arith))
+
+    pub block-begin : starts (drop 0 b) (drop (at + 0) s) ≡ starts b (drop at s)
+    block-begin = let e : at + 0 ≡ at = omega arith in rw e
+
+    module _ (j : ℕ) (inside : j < length b) (inside′ : at + j < length s) where
+      pub block-turn : getD b j 0 ≡ getD s (at + j) 0 → starts (drop j b) (drop (at + j) s) ≡ starts (drop (j + 1) b) (drop (at + (j + 1)) s)
+      unfolding starts
+      block-turn q =
+          let e : at + (j + 1) ≡ suc (at + j) = omega arith in
+          rw (e, add-one, drop-cons b j 0 inside, drop-cons s (at + j) 0 inside′, eq-eqb (getD b j 0) (getD s (at + j) 0) q)
+
+      pub block-stop : (getD b j 0 ≡ getD s (at + j) 0 → ⊥) → starts (drop j b) (drop (at + j) s) ≡ false
+      unfolding starts
+      block-stop q = rw (drop-cons b j 0 inside, drop-cons s (at + j) 0 inside′, ne-eqb (getD b j 0) (getD s (at + j) 0) q)
+
+    pub block-end : (j : ℕ) (l : List ℕ) → length b ≤ j → starts (drop j b) l ≡ true
+    unfolding starts
+    block-end j l h = rw (drop-of-length-le b h)
+
+-- a block stands at the front of itself, and of no other list of its length
+
+pub starts-equal : (b l : List ℕ) → b ≡ l → starts b l ≡ true
+starts-equal b l e = rw (← e) (rw append-nil at (starts-self b []))
+
+pub starts-whole : (b l : List ℕ) → length b ≡ length l → starts b l ≡ true → b ≡ l
+starts-whole b l e t = starts-is b l [] e (rw append-nil t)

@@ -1,0 +1,26 @@
+use mathlib.Core.Path.{sym, ap, _∙_}
+use borrow.Author.Needs.{needs}
+use Rattle.compare.specs.Judgement.{judgedAs}
+use Rattle.compare.proofs.Judging.{changed-none, changed-sub, changed-many}
+use Rattle.compare.proofs.judge.judge_changed.Statement.{statement}
+use Rattle.compare.proofs.judge.judge_changed.Tie as tie
+
+pub judge-changed-spec : {M : Type 1} → statement M
+judge-changed-spec =
+    tie.close
+    (tie.spec
+    (λ c. let a = c .before .before .before .args in sym (ap judgedAs (changed-none (a .written .now) (a .piece .now) (a .i) (c .before .before .before .pre .1) (c .before .before .before .pre .2) (c .if1 .taken))))
+    (λ c. search needs)
+    (λ c. search needs)
+    (λ c. search needs)
+    (λ c. search needs)
+    (λ c κs. search needs)
+    (λ c. search needs)
+    (λ c.
+    let a = c .before .before .before .before .before .before .before .args in
+    let p = c .before .before .before .before .before .before .before .pre in
+    sym (ap judgedAs (changed-sub (a .written .now) (a .piece .now) (a .i) (p .1) (p .2) (c .before .before .before .before .if1 .left) (sym (c .before .before .stands-at .ensures) ∙ c .before .if2 .taken))))
+    (λ c.
+    let a = c .before .before .before .before .before .before .args in
+    let p = c .before .before .before .before .before .before .pre in
+    sym (ap judgedAs (changed-many (a .written .now) (a .piece .now) (a .i) (p .1) (p .2) (c .before .before .before .if1 .left) (sym (c .before .stands-at .ensures) ∙ c .if2 .left)))))

@@ -1,0 +1,42 @@
+use mathlib.Core.Path.{_≡_, sym, _∙_}
+use Prim.Native.Nat.{_+_, _-_, _≤_}
+use native.Mathlib.Omega.{arith}
+use lib.ListN.{length, drop}
+use Rattle.code.specs.Reading.{starts}
+use Rattle.compare.proofs.Standing.{block-past, block-begin, block-turn, block-stop, block-end}
+use Rattle.compare.proofs.tests.stands_at.Statement.{statement}
+use Rattle.compare.proofs.tests.stands_at.Tie as tie
+
+-- the answer is that of what is left of the block
+abbrev Inv-loop : tie.InvT-loop
+Inv-loop block s at j₀ j = (j ≤ length block) × (length block ≤ length s - at) × (starts (drop j block) (drop (at + j) s) ≡ starts block (drop at s))
+
+abbrev μ-loop : tie.MeasureT-loop
+μ-loop block s at j₀ j = length block - j
+
+pub stands-at-spec : {M : Type 1} → statement M
+stands-at-spec =
+    tie.close
+    (tie.spec
+    Inv-loop
+    μ-loop
+    (λ c κs. tt)
+    (λ c. let a = c .before .before .before .before .args in sym (block-past (a .s .now) (a .at) (a .block .now) (omega arith)))
+    (λ c. let a = c .before .before .before .before .args in (omega arith, omega arith, block-begin (a .s .now) (a .at) (a .block .now)))
+    (λ c. omega arith)
+    (λ c. omega arith)
+    (λ c. omega arith)
+    (λ c.
+    let a = c .before .before .before .before .before .before .before .before .before .args in
+    let l = c .before .before .before .before .loop in
+    sym (sym (l .inv .2) ∙ block-stop (a .s .now) (a .at) (a .block .now) (l .j) (omega arith) (omega arith) (c .if2 .taken)))
+    (λ c. omega arith)
+    (λ c. omega arith)
+    (λ c.
+    let a = c .before .before .before .before .before .before .before .before .before .args in
+    let l = c .before .before .before .before .loop in
+    (omega arith, omega arith, sym (block-turn (a .s .now) (a .at) (a .block .now) (l .j) (omega arith) (omega arith) (c .if2 .left)) ∙ l .inv .2))
+    (λ c.
+    let a = c .before .before .before .before .before .before .args in
+    let l = c .before .loop in
+    sym (sym (l .inv .2) ∙ block-end (a .s .now) (a .at) (a .block .now) (l .j) _ (omega arith))))
