@@ -13,7 +13,6 @@ use mir.Syntax.{w64}
 use mir.Val.{Fits, SFits, toZ, ofZ}
 use mir.Facts.{toZ-ofZ, toZ-pos}
 use Rattle.code.specs.Lists.{tabulate, tabulate-at}
-use Rattle.code.specs.Reading.{moved}
 use Rattle.compare.specs.Offsets.{triedAt}
 use Rattle.compare.specs.OffsetsLaws.{tried-small}
 

@@ -1,5 +1,7 @@
 use mathlib.Core.Path.{sym, ap, _∙_}
+use native.Mathlib.Omega.{arith}
 use borrow.Author.Needs.{needs}
+use lib.ListN.{length-take, length-drop}
 use Rattle.compare.specs.Judgement.{judgedAs}
 use Rattle.compare.proofs.Judging.{changed-none, changed-sub, changed-many}
 use Rattle.compare.proofs.judge.judge_changed.Statement.{statement}
@@ -10,12 +12,12 @@ judge-changed-spec =
     tie.close
     (tie.spec
     (λ c. let a = c .before .before .before .args in sym (ap judgedAs (changed-none (a .written .now) (a .piece .now) (a .i) (c .before .before .before .pre .1) (c .before .before .before .pre .2) (c .if1 .taken))))
+    (λ c. omega arith)
+    (λ c. omega arith)
     (λ c. search needs)
     (λ c. search needs)
-    (λ c. search needs)
-    (λ c. search needs)
-    (λ c κs. search needs)
-    (λ c. search needs)
+    (λ c κs. (omega arith, simp (length-take, length-drop) (omega arith)))
+    (λ c. omega arith)
     (λ c.
     let a = c .before .before .before .before .before .before .before .args in
     let p = c .before .before .before .before .before .before .before .pre in

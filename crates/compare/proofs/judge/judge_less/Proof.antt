@@ -1,5 +1,7 @@
 use mathlib.Core.Path.{sym, ap, _∙_}
+use native.Mathlib.Omega.{arith}
 use borrow.Author.Needs.{needs}
+use lib.ListN.{length-take, length-drop}
 use Rattle.compare.specs.Judgement.{judgedAs}
 use Rattle.compare.proofs.Judging.{less-del, less-many}
 use Rattle.compare.proofs.judge.judge_less.Statement.{statement}
@@ -9,13 +11,13 @@ pub judge-less-spec : {M : Type 1} → statement M
 judge-less-spec =
     tie.close
     (tie.spec
+    (λ c. omega arith)
+    (λ c. omega arith)
     (λ c. search needs)
     (λ c. search needs)
-    (λ c. search needs)
-    (λ c. search needs)
-    (λ c κs. search needs)
-    (λ c κs. search needs)
-    (λ c. search needs)
+    (λ c κs. (omega arith, simp (length-take, length-drop) (omega arith)))
+    (λ c κs. omega arith)
+    (λ c. omega arith)
     (λ c.
     let a = c .before .before .before .before .before .before .before .args in
     let p = c .before .before .before .before .before .before .before .pre in

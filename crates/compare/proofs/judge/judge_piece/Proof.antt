@@ -1,6 +1,5 @@
 use mathlib.Core.Path.{sym, ap}
 use native.Mathlib.Omega.{arith}
-use borrow.Author.Needs.{needs}
 use Rattle.compare.specs.Judgement.{judgedAs}
 use Rattle.compare.proofs.Sharing.{shared}
 use Rattle.compare.proofs.Judging.{far-many}
@@ -11,21 +10,23 @@ pub judge-piece-spec : {M : Type 1} → statement M
 judge-piece-spec =
     tie.close
     (tie.spec
-    (λ c κs. search needs)
-    (λ c κs. search needs)
-    (λ c. search needs)
-    (λ c. search needs)
+    (λ c κs. tt)
+    (λ c κs. (omega arith, omega arith, c .before .first-difference .ensures))
+    (λ c. c .judge-changed .ensures)
+    (λ c. omega arith)
     (λ c κs.
     let a = c .before .before .before .before .before .args in
     let f = c .before .before .first-difference in
     let s = shared (a .written .now) (a .piece .now) in
     (omega arith, omega arith, omega (arith, f .ensures), f .ensures))
-    (λ c. search needs)
-    (λ c. search needs)
+    (λ c. c .judge-less .ensures)
+    (λ c. omega arith)
     (λ c κs.
     let a = c .before .before .before .before .before .before .args in
     let f = c .before .before .before .first-difference in
     let s = shared (a .written .now) (a .piece .now) in
     (omega arith, omega arith, omega (arith, f .ensures), f .ensures))
-    (λ c. search needs)
-    (λ c. let a = c .before .before .before .before .before .before .args in sym (ap judgedAs (far-many (a .written .now) (a .piece .now) (c .before .before .if1 .left) (c .before .if2 .left) (c .if3 .left)))))
+    (λ c. c .judge-more .ensures)
+    (λ c.
+    let a = c .before .before .before .before .before .before .args in
+    sym (ap judgedAs (far-many (a .written .now) (a .piece .now) (c .before .before .if1 .left) (c .before .if2 .left) (c .if3 .left)))))

@@ -1,5 +1,5 @@
 use mathlib.Core.Path.{sym}
-use borrow.Author.Needs.{needs}
+use native.Mathlib.Omega.{arith}
 use Rattle.compare.proofs.Standing.{one-inside, one-past}
 use Rattle.compare.proofs.tests.is_at.Statement.{statement}
 use Rattle.compare.proofs.tests.is_at.Tie as tie
@@ -8,6 +8,6 @@ pub is-at-spec : {M : Type 1} → statement M
 is-at-spec =
     tie.close
     (tie.spec
-    (λ c. search needs)
+    (λ c. omega arith)
     (λ c. let a = c .before .before .args in sym (one-inside (a .s .now) (a .at) (a .x) (c .before .if1 .taken)))
     (λ c. let a = c .before .args in sym (one-past (a .s .now) (a .at) (a .x) (c .if1 .left))))

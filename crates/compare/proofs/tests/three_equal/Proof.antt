@@ -1,5 +1,5 @@
 use mathlib.Core.Path.{sym, _∙_}
-use borrow.Author.Needs.{needs}
+use native.Mathlib.Omega.{arith}
 use borrow.Author.Tests.{eq-eqb, ne-eqb}
 use Rattle.compare.proofs.Standing.{three-inside, three-past}
 use Rattle.compare.proofs.tests.three_equal.Statement.{statement}
@@ -9,15 +9,15 @@ pub three-equal-spec : {M : Type 1} → statement M
 three-equal-spec =
     tie.close
     (tie.spec
-    (λ c. search needs)
+    (λ c. omega arith)
     (λ c. let a = c .before .args in sym (three-past (a .s .now) (a .at) (c .if1 .taken)))
-    (λ c. search needs)
-    (λ c. search needs)
-    (λ c. search needs)
-    (λ c. search needs)
-    (λ c. search needs)
-    (λ c. search needs)
-    (λ c. search needs)
+    (λ c. omega arith)
+    (λ c. omega arith)
+    (λ c. omega arith)
+    (λ c. omega arith)
+    (λ c. omega arith)
+    (λ c. omega arith)
+    (λ c. omega arith)
     (λ c.
     let a = c .before .before .before .before .before .before .args in
     sym (three-inside (a .s .now) (a .at) (c .before .before .before .before .before .if1 .left) ∙ rw (eq-eqb _ _ (c .before .before .if2 .taken))))

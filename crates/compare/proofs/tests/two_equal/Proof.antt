@@ -1,5 +1,5 @@
 use mathlib.Core.Path.{sym}
-use borrow.Author.Needs.{needs}
+use native.Mathlib.Omega.{arith}
 use Rattle.compare.proofs.Standing.{two-inside, two-past}
 use Rattle.compare.proofs.tests.two_equal.Statement.{statement}
 use Rattle.compare.proofs.tests.two_equal.Tie as tie
@@ -8,9 +8,9 @@ pub two-equal-spec : {M : Type 1} → statement M
 two-equal-spec =
     tie.close
     (tie.spec
-    (λ c. search needs)
-    (λ c. search needs)
-    (λ c. search needs)
-    (λ c. search needs)
+    (λ c. omega arith)
+    (λ c. omega arith)
+    (λ c. omega arith)
+    (λ c. omega arith)
     (λ c. let a = c .before .before .before .args in sym (two-inside (a .s .now) (a .at) (c .before .before .if1 .taken)))
     (λ c. let a = c .before .args in sym (two-past (a .s .now) (a .at) (c .if1 .left))))

@@ -1,0 +1,3 @@
+pub mod Separators
+pub mod Mends
+pub mod Steps
