@@ -1,6 +1,7 @@
 // Runs the functions on the samples that are not proved as theorems; the file stdout has what they must give.
 use code::Decoded;
 use code::Letter;
+use code::Wrote;
 use libc::STDOUT_FILENO;
 
 fn word(text: &[u8]) {
@@ -88,6 +89,27 @@ fn syndromes(text: &[u8], message: &[u8]) {
     }
 }
 
+// What writing a message of B zero bytes for k and B answers.
+fn written(k: u32, b: u32) {
+    let message = [0u8; 256];
+    let mut out = [0u8; 2048];
+    word(b"write k");
+    number(k as u64);
+    word(b" B");
+    number(b as u64);
+    match dnalm::write(k, b, text::lines::front(&message, b as usize), &mut out) {
+        Wrote::Letters(n) => {
+            word(b" letters");
+            number(n as u64);
+        }
+        Wrote::Refused(r) => {
+            word(b" refused");
+            number(dnalm::refusal_number(r) as u64);
+        }
+    }
+    word(b"\n");
+}
+
 fn main() {
     letter(b'A');
     letter(b'T');
@@ -108,4 +130,14 @@ fn main() {
     width(64);
     syndromes(b"013", &[0, 1, 3]);
     syndromes(b"210", &[2, 1, 0]);
+    written(16, 32);
+    written(32, 32);
+    written(64, 32);
+    written(1, 32);
+    written(2, 32);
+    written(2, 33);
+    written(3, 1);
+    written(65, 32);
+    written(64, 128);
+    written(64, 129);
 }
