@@ -1,0 +1,2 @@
+// The reading steps.
+pub mod scan;
