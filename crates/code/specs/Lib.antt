@@ -41,5 +41,8 @@ pub mod StrandsLaws
 pub mod Regained
 pub mod Demand3
 pub mod WithinLimits
+pub mod MessageLengths
+pub mod ReadCall
+pub mod ReadCallLaws
 pub mod Samples
 pub mod Runs

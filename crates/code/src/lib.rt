@@ -50,6 +50,12 @@ pub enum Wrote {
     Refused(Refusal),
 }
 
+// What the reader answers: how many segments are clean, corrected and lost.
+pub enum Counted {
+    Counts(u32, u32, u32),
+    Refused(Refusal),
+}
+
 // What reading a label answers: k and B.
 pub enum Order {
     Is(usize, usize),

@@ -1,0 +1,183 @@
+-- Laws of the reading call and the piece call.
+--   only-short        of a strand that keeps the one-edit conditions only test 5 can be met
+--   Kept, kept        what holds of the reading of such a strand
+--   length-sheet      the bytes of a reading's sheet
+--   length-bytes-of   the bytes of a reading
+--   Given, Returned   what a call has to answer and leave in its buffers
+--   Demand-3-call     demand 3 of a call
+--   demand-3-holds    it holds of a call that answers and writes what is defined
+--   piece-inside      a piece lies inside the caller's letters
+--   piece-letters     its letters are those of the outcome's piece
+use mathlib.Core.Path.{_≡_, refl, sym, ap, _∙_}
+use mathlib.Core.Bool.{true, false}
+use mathlib.Core.List.{List, [], _∷_, _++_, map}
+use Prim.Native.Nat.{ℕ, zero, suc, _+_, _-_, _*_, _/_, _%_, _≤_}
+use native.Mathlib.Omega.{arith}
+use borrow.Author.Tests.{le-ltb}
+use lib.ListN.{length, getD, take, drop, replicate, length-map, length-append, length-replicate}
+use lib.Seq.{take-at, drop-append-add}
+use Rattle.code.specs.declared.Decoded.the-variants as D
+use Rattle.code.specs.declared.Refusal.the-variants.{Overlong, ShortBuffer}
+use Rattle.code.specs.declared.Checked.{Checked}
+use Rattle.code.specs.declared.Checked.the-variants.{Fine, Refused}
+use Rattle.code.specs.declared.Counted.{Counted}
+use Rattle.code.specs.declared.Counted.the-variants as N
+use Rattle.code.specs.Symbols.{Below, letterOf, letters, legible, decoded, symbols, bytes}
+use Rattle.code.specs.SymbolsLaws.{legible-letters, whole-letters, whole-length, length-symbols, symbols-below, bytes-symbols, length-bytes}
+use Rattle.code.specs.Layout.{sum, cut, joined, layoutOf}
+use Rattle.code.specs.LayoutLaws.{layout-sum}
+use Rattle.code.specs.Refusals.{refuse, mostLetters, orderTest}
+use Rattle.code.specs.RefusalsLaws.{order-fine, order-then}
+use Rattle.code.specs.Writing.{bufferOf}
+use Rattle.code.specs.Conditions.{OneEdit}
+use Rattle.code.specs.Strands.{outcomes, messagesOf, marksOf, countOf}
+use Rattle.code.specs.StrandsLaws.{length-reading, joined-pieces}
+use Rattle.code.specs.Demand3.{Lengths, done, more, Regains, demand-3}
+use Rattle.code.specs.WithinLimits.{readable}
+use Rattle.code.specs.MessageLengths.{length-messages}
+use Rattle.code.specs.ReadCall.{sheetBytes, foreignTest, overlong, shortBuffers, readTest, outcomesOf, countedOf, bytesOf, sheetFor, piecesOf, startOf, pieceLength, pieceOf}
+
+-- equal lengths of 2 or more are a layout's
+equal-lengths : (l k : ℕ) → 2 ≤ k → Lengths (replicate l k)
+equal-lengths zero k h = done
+equal-lengths (suc l) k h = more h (equal-lengths l k h)
+
+-- of a strand that keeps the conditions only test 5 can be met
+pub only-short : (k b : ℕ) (bs s : List ℕ) (n m : ℕ) → orderTest k b false Fine ≡ Fine → length bs ≡ b → OneEdit (cut (layoutOf k b) (symbols bs)) s → readTest k b (letters s) n m ≡ refuse (shortBuffers k b n m) ShortBuffer Fine
+only-short k b bs s n m o size e =
+    let r = readable k b false bs s (order-fine k b false o) size e in
+    let cs = letters s in
+    let q : overlong cs ≡ false = le-ltb mostLetters (length cs) (omega (arith, r .short, length-map s letterOf)) in
+    order-then k b false (refuse (overlong cs) Overlong (refuse (shortBuffers k b n m) ShortBuffer (foreignTest (decoded cs) Fine))) o ∙ rw (q, r .no-foreign)
+
+-- what holds of the reading of a strand that keeps the conditions for the bytes bs
+pub record Kept (k b : ℕ) (cs bs : List ℕ) (n m : ℕ) : Type 0 where
+  pub message : bytesOf k b cs ≡ bs
+  pub none-lost : countOf 2 (marksOf (outcomesOf k b cs)) ≡ 0
+  pub all-found : countOf 0 (marksOf (outcomesOf k b cs)) + countOf 1 (marksOf (outcomesOf k b cs)) ≡ length (layoutOf k b)
+  pub tested : readTest k b cs n m ≡ refuse (shortBuffers k b n m) ShortBuffer Fine
+
+pub kept : (k b : ℕ) (cs bs s : List ℕ) (n m : ℕ) → orderTest k b false Fine ≡ Fine → length bs ≡ b → Below 256 bs → letters s ≡ cs → OneEdit (cut (layoutOf k b) (symbols bs)) s → Kept k b cs bs n m
+kept k b cs bs s n m o size small same e =
+    let p = order-fine k b false o in
+    let l : legible cs ≡ s = ap legible (sym same) ∙ legible-letters s (readable k b false bs s p size e .small) in
+    let x : length (symbols bs) ≡ sum (layoutOf k b) = length-symbols bs ∙ rw size (sym (layout-sum k b (p .multiple))) in
+    let r : Regains (layoutOf k b) (symbols bs) (legible cs) = rw l (demand-3 (layoutOf k b) (symbols bs) s (equal-lengths (4 * b / k) k (p .least-length)) (symbols-below bs) x e) in
+    record {
+      message = ap bytes (r .message) ∙ bytes-symbols bs small;
+      none-lost = r .none-lost;
+      all-found = r .all-found;
+      tested = ap (λ (c : List ℕ). readTest k b c n m) (sym same) ∙ only-short k b bs s n m o size e;
+    }
+
+-- the sheet of l marks has a byte for four of them or fewer
+pub length-sheet : (k b : ℕ) (cs : List ℕ) → length (sheetFor k b cs) ≡ sheetBytes (length (layoutOf k b))
+length-sheet k b cs =
+    let marks = marksOf (outcomesOf k b cs) in
+    let q : length marks ≡ length (layoutOf k b) = simp length-map (length-reading false 0 (layoutOf k b) (legible cs) (legible cs)) in
+    let p : length (marks ++ replicate ((4 - length marks % 4) % 4) 0) ≡ 4 * ((length marks + 3) / 4) = simp (length-append, length-replicate) (omega arith) in
+    length-bytes (marks ++ replicate ((4 - length marks % 4) % 4) 0) ∙ omega arith
+
+-- the bytes of a reading are B
+pub length-bytes-of : (k b : ℕ) (cs : List ℕ) → orderTest k b false Fine ≡ Fine → length (bytesOf k b cs) ≡ b
+length-bytes-of k b cs o =
+    let p = order-fine k b false o in
+    let q = length-messages false 0 (layoutOf k b) (legible cs) (legible cs) (equal-lengths (4 * b / k) k (p .least-length)) in
+    length-bytes (messagesOf (outcomesOf k b cs)) ∙ omega (arith, q, layout-sum k b (p .multiple))
+
+-- what a call that is not turned down answers and writes, where the strand keeps the conditions for the bytes bs
+pub record Given (k b : ℕ) (cs bs : List ℕ) (answer : Counted) (old out oldSheet sheet : List ℕ) : Type 0 where
+  pub clean : ℕ
+  pub corrected : ℕ
+  pub counts : answer ≡ N.Counts clean corrected 0
+  pub all-found : clean + corrected ≡ length (layoutOf k b)
+  pub message : out ≡ bs ++ drop b old
+  pub marks : sheet ≡ sheetFor k b cs ++ drop (sheetBytes (length (layoutOf k b))) oldSheet
+  pub none-lost : countOf 2 (marksOf (outcomesOf k b cs)) ≡ 0
+
+-- what a call has to answer and leave in its buffers: short buffers alone turn it down
+pub record Returned (k b : ℕ) (cs bs : List ℕ) (answer : Counted) (old out oldSheet sheet : List ℕ) : Type 0 where
+  pub turned-down : shortBuffers k b (length old) (length oldSheet) ≡ true → (answer ≡ N.Refused ShortBuffer) × (out ≡ old) × (sheet ≡ oldSheet)
+  pub given : shortBuffers k b (length old) (length oldSheet) ≡ false → Given k b cs bs answer old out oldSheet sheet
+
+-- demand 3 of a call for k and B with the letters cs: its answer, and both buffers before and after
+abbrev pub Demand-3-call : (k b : ℕ) (cs : List ℕ) (answer : Counted) (old out oldSheet sheet : List ℕ) → Type 0
+Demand-3-call k b cs answer old out oldSheet sheet =
+    (bs s : List ℕ)
+    → orderTest k b false Fine ≡ Fine
+    → length bs ≡ b
+    → Below 256 bs
+    → letters s ≡ cs
+    → OneEdit (cut (layoutOf k b) (symbols bs)) s
+    → Returned k b cs bs answer old out oldSheet sheet
+
+-- it holds of a call that answers and writes what is defined
+pub demand-3-holds : (k b : ℕ) (cs : List ℕ) (answer : Counted) (old out oldSheet sheet : List ℕ) → answer ≡ countedOf (readTest k b cs (length old) (length oldSheet)) (marksOf (outcomesOf k b cs)) → out ≡ bufferOf (readTest k b cs (length old) (length oldSheet)) (bytesOf k b cs) old → sheet ≡ bufferOf (readTest k b cs (length old) (length oldSheet)) (sheetFor k b cs) oldSheet → Demand-3-call k b cs answer old out oldSheet sheet
+demand-3-holds k b cs answer old out oldSheet sheet ea eo es bs s o size small same e =
+    let t = kept k b cs bs s (length old) (length oldSheet) o size small same e in
+    let marks = marksOf (outcomesOf k b cs) in
+    let counted : (c : Checked) → readTest k b cs (length old) (length oldSheet) ≡ c → answer ≡ countedOf c marks = λ c q. ea ∙ ap (λ (d : Checked). countedOf d marks) q in
+    let wrote : (c : Checked) → readTest k b cs (length old) (length oldSheet) ≡ c → out ≡ bufferOf c (bytesOf k b cs) old = λ c q. eo ∙ ap (λ (d : Checked). bufferOf d (bytesOf k b cs) old) q in
+    let marked : (c : Checked) → readTest k b cs (length old) (length oldSheet) ≡ c → sheet ≡ bufferOf c (sheetFor k b cs) oldSheet = λ c q. es ∙ ap (λ (d : Checked). bufferOf d (sheetFor k b cs) oldSheet) q in
+    record {
+      turned-down = λ h. let q : readTest k b cs (length old) (length oldSheet) ≡ Refused ShortBuffer = t .tested ∙ rw h in (counted (Refused ShortBuffer) q, wrote (Refused ShortBuffer) q, marked (Refused ShortBuffer) q);
+      given = λ h.
+          let q : readTest k b cs (length old) (length oldSheet) ≡ Fine = t .tested ∙ rw h in
+          record {
+            clean = countOf 0 marks;
+            corrected = countOf 1 marks;
+            counts = counted Fine q ∙ ap (N.Counts (countOf 0 marks) (countOf 1 marks)) (t .none-lost);
+            all-found = t .all-found;
+            message = wrote Fine q ∙ rw (t .message, size);
+            marks = marked Fine q ∙ rw (length-sheet k b cs);
+            none-lost = t .none-lost;
+          };
+    }
+
+-- The piece call
+
+-- a part of joined lists, by their lengths
+part : (ps : List (List ℕ)) (i : ℕ) → take (getD (map length ps) i 0) (drop (sum (take i (map length ps))) (joined ps)) ≡ getD ps i []
+unfolding sum joined
+part [] i = refl
+part (p ∷ ps) zero = take-at p (joined ps) (length p) refl
+part (p ∷ ps) (suc i) = rw (drop-append-add p (joined ps) (sum (take i (map length ps)))) (part ps i)
+
+part-inside : (ps : List (List ℕ)) (i : ℕ) → sum (take i (map length ps)) + getD (map length ps) i 0 ≤ length (joined ps)
+unfolding sum joined
+part-inside [] zero = omega arith
+part-inside [] (suc i) = omega arith
+part-inside (p ∷ ps) zero = simp length-append (omega arith)
+part-inside (p ∷ ps) (suc i) = simp length-append (omega (arith, part-inside ps i))
+
+letters-take : (n : ℕ) (s : List ℕ) → take n (letters s) ≡ letters (take n s)
+letters-take zero s = refl
+letters-take (suc n) [] = refl
+letters-take (suc n) (x ∷ s) = ap (_∷_ (letterOf x)) (letters-take n s)
+
+letters-drop : (n : ℕ) (s : List ℕ) → drop n (letters s) ≡ letters (drop n s)
+letters-drop zero s = refl
+letters-drop (suc n) [] = refl
+letters-drop (suc n) (x ∷ s) = letters-drop n s
+
+-- the pieces of an order's layout, joined, are all that was received
+all-pieces : (l k : ℕ) (s : List ℕ) → 1 ≤ l → joined (piecesOf (outcomes (replicate l k) s)) ≡ s
+all-pieces zero k s h = absurd (omega arith)
+all-pieces (suc l) k s h = joined-pieces false 0 k (replicate l k) s s
+
+module _ (k b : ℕ) (cs : List ℕ) (o : orderTest k b false Fine ≡ Fine) (w : decoded cs ≡ D.Whole) where
+  pieces-legible : joined (piecesOf (outcomesOf k b cs)) ≡ legible cs
+  pieces-legible = all-pieces (4 * b / k) k (legible cs) (order-fine k b false o .some-segments)
+
+  -- the piece behind the first i pieces lies inside the caller's letters
+  pub piece-inside : (i : ℕ) → startOf (outcomesOf k b cs) i + pieceLength (outcomesOf k b cs) i ≤ length cs
+  piece-inside i = omega (arith, part-inside (piecesOf (outcomesOf k b cs)) i, ap length pieces-legible, whole-length cs w)
+
+  -- the letters of the i-th piece, from 1, are those of its outcome
+  pub piece-letters : (i : ℕ) → pieceOf (outcomesOf k b cs) cs i ≡ letters (getD (piecesOf (outcomesOf k b cs)) (i - 1) [])
+  piece-letters i =
+      let ps = piecesOf (outcomesOf k b cs) in
+      let n = sum (take (i - 1) (map length ps)) in
+      let x = getD (map length ps) (i - 1) 0 in
+      let same : cs ≡ letters (joined ps) = sym (whole-letters cs w) ∙ ap letters (sym pieces-legible) in
+      ap (λ (c : List ℕ). take x (drop n c)) same ∙ ap (take x) (letters-drop n (joined ps)) ∙ letters-take x (drop n (joined ps)) ∙ ap letters (part ps (i - 1))
