@@ -1,1 +1,4 @@
 pub mod Scanning
+pub mod Ending
+pub mod Comparing
+pub mod OneRead

@@ -1,3 +1,4 @@
 pub mod Scans
 pub mod ScansLaws
 pub mod ScansRuns
+pub mod Ones

@@ -1,2 +1,3 @@
 // The reading steps.
+pub mod one;
 pub mod scan;

@@ -1,6 +1,6 @@
 // Writing one segment: its marker, the message, and what follows the message.
 ghost use mathlib.Core.Path.{_≡_};
-ghost use Prim.Native.Nat.{_+_, _<_, _≤_};
+ghost use Prim.Native.Nat.{_+_, _-_, _<_, _≤_};
 ghost use lib.ListN.{length, getD, take};
 ghost use Rattle.code.specs.Lists.{putAt};
 ghost use Rattle.code.specs.Symbols.{Below};
@@ -138,6 +138,37 @@ fn put_tail(tail: Tail, alphabet: &[u8; 4], out: &mut [u8], at: usize)
     put(&syndrome[..width], alphabet, out, at + 4);
 }
 
+// The segment of a message with its tail at a place of `out`, spelled in an alphabet; f is the last symbol of the segment before.
+pub fn put_segment(
+    marked: bool,
+    f: u8,
+    message: &[u8],
+    tail: Tail,
+    alphabet: &[u8; 4],
+    out: &mut [u8],
+    at: usize,
+)
+    requires { ⌜ Below 4 (now message) ⌝ }
+    requires { ⌜ IsTail (now message) tail ⌝ }
+    requires { ⌜ (f < 4) × (2 ≤ length (now message)) × (length (now message) ≤ 4096) ⌝ }
+    requires { ⌜ (length (now alphabet) ≡ 4) × (at + size marked (length (now message)) ≤ length (now out)) ⌝ }
+    ensures { λ _. ⌜ now (out .exit) ≡ putAt (now (out .entry)) at (spelled (now (alphabet .entry)) (segment marked f (now (message .entry)))) ⌝ }
+{
+    let start = put_marker(marked, f, message, alphabet, out, at);
+    put(message, alphabet, out, start);
+    put_tail(tail, alphabet, out, start + message.len());
+}
+
+// The last syndrome symbol of a tail.
+pub fn last_of(tail: Tail) -> u8
+    requires { ⌜ (0 < tail .width) × (tail .width ≤ 16) × (length (tail .syndrome) ≡ 16) ⌝ }
+    ensures { λ r. ⌜ r ≡ getD (tail .syndrome) (tail .width - 1) 0 ⌝ }
+{
+    let last = tail.width - 1;
+    let syndrome = tail.syndrome;
+    syndrome[last]
+}
+
 // The segment of a message at a place of `out`, spelled in an alphabet; f is the last symbol of the segment before, and the answer that of this one.
 pub fn write_segment(
     marked: bool,
@@ -152,13 +183,9 @@ pub fn write_segment(
     requires { ⌜ (length (now alphabet) ≡ 4) × (at + size marked (length (now message)) ≤ length (now out)) ⌝ }
     ensures { λ r. ⌜ (now (out .exit) ≡ putAt (now (out .entry)) at (spelled (now (alphabet .entry)) (segment marked f (now (message .entry))))) × (r ≡ lastOf (now (message .entry))) ⌝ }
 {
-    let start = put_marker(marked, f, message, alphabet, out, at);
-    put(message, alphabet, out, start);
     let tail = tail_of(message);
-    put_tail(tail, alphabet, out, start + message.len());
-    let last = tail.width - 1;
-    let syndrome = tail.syndrome;
-    syndrome[last]
+    put_segment(marked, f, message, tail, alphabet, out, at);
+    last_of(tail)
 }
 
 // The length of a segment of k message symbols.
