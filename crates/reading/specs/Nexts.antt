@@ -1,0 +1,14 @@
+-- What a call answers of a step.
+use mathlib.Core.Path.{_≡_}
+use Prim.Native.Nat.{ℕ, _≤_, _<_}
+use Rattle.reading.specs.declared.next.Next.{Next}
+use Rattle.reading.specs.Steps.{Step}
+
+-- the answer r names verdict, start and symbol of a step, inside a strand of n symbols
+pub record IsNext (n : ℕ) (t : Step) (r : Next) : Type 0 where
+  pub verdict : r .verdict ≡ t .outcome .verdict
+  pub found : r .found ≡ t .found
+  pub start : r .start ≡ t .start
+  pub f : r .f ≡ t .f
+  pub inside : r .start ≤ n
+  pub small : r .f < 4
