@@ -1,4 +1,4 @@
--- Runs of the reading steps on the layout 2, 3, 2: each lost step, each j and e, and several d, with the verdicts worked out by hand.
+-- Runs of the reading steps on the layout 2, 3, 2: each lost step, each j and e, and several d, with the verdicts that a separate model of document 01 gives.
 use mathlib.Core.Bool.{Bool, true, false, _&&_}
 use mathlib.Core.List.{List, [], _∷_, map}
 use Prim.Native.Nat.{ℕ, _+_, _*_}

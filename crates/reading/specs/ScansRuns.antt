@@ -1,4 +1,4 @@
--- Runs of the search about a place n, for a clean segment of the message 0 0 behind f = 0, worked out by hand.
+-- Runs of the search about a place n, for a clean segment of the message 0 0 behind f = 0, each with the start that it finds.
 use mathlib.Core.Bool.{Bool, true, false, _&&_}
 use mathlib.Core.List.{List, [], _∷_, _++_}
 use mathlib.Core.Option.{Option, some, none}
