@@ -42,6 +42,7 @@ pub mod Regained
 pub mod Demand3
 pub mod WithinLimits
 pub mod MessageLengths
+pub mod MessageBelow
 pub mod ReadCall
 pub mod ReadCallLaws
 pub mod Samples

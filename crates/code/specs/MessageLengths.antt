@@ -1,7 +1,8 @@
 -- Every segment's message has as many symbols as the layout says, whatever was received.
 --   separator-inside   a separator that is found lies inside the strand
 --   got-length         steps 3 to 7 give k symbols
---   read-length        so does a segment that is read
+--   read-got           the message of a segment that is read
+--   read-length        it has k symbols
 --   length-messages    all messages of a reading together
 use mathlib.Core.Path.{_≡_, refl, sym, ap, _∙_}
 use mathlib.Core.Bool.{Bool, true, false, cond}
@@ -125,10 +126,10 @@ got-length marked k s m h e = go marked e
     go true q = marker (whole true s) q
     go false q = wholly s (separatorAt k s) refl q
 
--- a segment that is read has a message of k symbols
-pub read-length : (marked : Bool) (f k : ℕ) (ks s raw m : List ℕ) (e : Edit) (o : ℕ) → 1 ≤ k → readOne marked f k ks s raw ≡ read m e o → length m ≡ k
+-- the message of a segment that is read is that of steps 3 to 7
+pub read-got : (marked : Bool) (f k : ℕ) (ks s raw m : List ℕ) (e : Edit) (o : ℕ) → readOne marked f k ks s raw ≡ read m e o → got marked k s ≡ message m
 unfolding readOne
-read-length marked f k ks s raw m e o h t = go (got marked k s) refl t
+read-got marked f k ks s raw m e o t = go (got marked k s) refl t
   where
     judging : (n : List ℕ) (p : ℕ) (j : Option Edit) → withEdit n p j ≡ read m e o → n ≡ m
     judging n p (some d) q = cc
@@ -138,9 +139,13 @@ read-length marked f k ks s raw m e o h t = go (got marked k s) refl t
     ending n (some p) q = judging n p (judged (segment marked f n) (take p raw)) q
     ending n none q = let z : _≡_ {A = ℕ} 0 1 = cc in absurd (omega arith)
 
-    go : (g : Got) → got marked k s ≡ g → withMessage marked f k ks s raw g ≡ read m e o → length m ≡ k
-    go (message n) p q = ap length (sym (ending n (endOf marked k ks s raw n) q)) ∙ got-length marked k s n h p
+    go : (g : Got) → got marked k s ≡ g → withMessage marked f k ks s raw g ≡ read m e o → got marked k s ≡ message m
+    go (message n) p q = p ∙ ap message (ending n (endOf marked k ks s raw n) q)
     go (Got.lost step) p q = let z : _≡_ {A = ℕ} 0 1 = cc in absurd (omega arith)
+
+-- a segment that is read has a message of k symbols
+pub read-length : (marked : Bool) (f k : ℕ) (ks s raw m : List ℕ) (e : Edit) (o : ℕ) → 1 ≤ k → readOne marked f k ks s raw ≡ read m e o → length m ≡ k
+read-length marked f k ks s raw m e o h t = got-length marked k s m h (read-got marked f k ks s raw m e o t)
 
 -- The whole strand
 

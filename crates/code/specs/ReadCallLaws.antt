@@ -1,4 +1,10 @@
 -- Laws of the reading call and the piece call.
+--   received-fine     what holds of letters that tests 1 to 4 take, and back: fine-received
+--   received-then     a further test behind tests 1 to 4 that are not met
+--   received-refused  a further test behind tests 1 to 4 of which one is met
+--   read-short, read-foreign, read-fine           the tests of a reading behind 1 to 4, in their order
+--   piece-foreign, piece-outside, piece-fine      those of a piece call
+--   received-taken, piece-taken                   what holds of a call that is taken
 --   only-short        of a strand that keeps the one-edit conditions only test 5 can be met
 --   Kept, kept        what holds of the reading of such a strand
 --   length-sheet      the bytes of a reading's sheet
@@ -9,15 +15,17 @@
 --   piece-inside      a piece lies inside the caller's letters
 --   piece-letters     its letters are those of the outcome's piece
 use mathlib.Core.Path.{_≡_, refl, sym, ap, _∙_}
-use mathlib.Core.Bool.{true, false}
+use mathlib.Core.Bool.{Bool, true, false}
 use mathlib.Core.List.{List, [], _∷_, _++_, map}
 use Prim.Native.Nat.{ℕ, zero, suc, _+_, _-_, _*_, _/_, _%_, _≤_}
 use native.Mathlib.Omega.{arith}
-use borrow.Author.Tests.{le-ltb}
+use borrow.Author.Tests.{ltb-false, le-ltb}
 use lib.ListN.{length, getD, take, drop, replicate, length-map, length-append, length-replicate}
 use lib.Seq.{take-at, drop-append-add}
+use Rattle.code.specs.declared.Decoded.{Decoded}
 use Rattle.code.specs.declared.Decoded.the-variants as D
-use Rattle.code.specs.declared.Refusal.the-variants.{Overlong, ShortBuffer}
+use Rattle.code.specs.declared.Refusal.{Refusal}
+use Rattle.code.specs.declared.Refusal.the-variants.{Overlong, ShortBuffer, ForeignLetter, NoSuchSegment}
 use Rattle.code.specs.declared.Checked.{Checked}
 use Rattle.code.specs.declared.Checked.the-variants.{Fine, Refused}
 use Rattle.code.specs.declared.Counted.{Counted}
@@ -26,8 +34,8 @@ use Rattle.code.specs.Symbols.{Below, letterOf, letters, legible, decode
 use Rattle.code.specs.SymbolsLaws.{legible-letters, whole-letters, whole-length, length-symbols, symbols-below, bytes-symbols, length-bytes}
 use Rattle.code.specs.Layout.{sum, cut, joined, layoutOf}
 use Rattle.code.specs.LayoutLaws.{layout-sum}
-use Rattle.code.specs.Refusals.{refuse, mostLetters, orderTest}
-use Rattle.code.specs.RefusalsLaws.{order-fine, order-then}
+use Rattle.code.specs.Refusals.{refuse, mostLetters, outside, orderTest}
+use Rattle.code.specs.RefusalsLaws.{order-fine, order-then, order-refused}
 use Rattle.code.specs.Writing.{bufferOf}
 use Rattle.code.specs.Conditions.{OneEdit}
 use Rattle.code.specs.Strands.{outcomes, messagesOf, marksOf, countOf}
@@ -35,7 +43,84 @@ use Rattle.code.specs.StrandsLaws.{length-reading, joined-pieces}
 use Rattle.code.specs.Demand3.{Lengths, done, more, Regains, demand-3}
 use Rattle.code.specs.WithinLimits.{readable}
 use Rattle.code.specs.MessageLengths.{length-messages}
-use Rattle.code.specs.ReadCall.{sheetBytes, foreignTest, overlong, shortBuffers, readTest, outcomesOf, countedOf, bytesOf, sheetFor, piecesOf, startOf, pieceLength, pieceOf}
+use Rattle.code.specs.ReadCall.{sheetBytes, foreignTest, overlong, receivedTest, shortBuffers, readTest, pieceTest, outcomesOf, countedOf, bytesOf, sheetFor, piecesOf, startOf, pieceLength, pieceOf}
+
+-- Tests 1 to 4
+
+fine : (x : Bool) (r : Refusal) → refuse x r Fine ≡ Fine → x ≡ false
+fine true r e = let z : _≡_ {A = ℕ} 0 1 = cc in absurd (omega arith)
+fine false r e = refl
+
+refused : (x : Bool) (r u : Refusal) (next : Checked) → refuse x r Fine ≡ Refused u → refuse x r next ≡ Refused u
+refused true r u next e = e
+refused false r u next e = let z : _≡_ {A = ℕ} 0 1 = cc in absurd (omega arith)
+
+module _ (k b n : ℕ) where
+  -- what holds of letters that tests 1 to 4 take
+  pub received-fine : receivedTest k b n Fine ≡ Fine → (orderTest k b false Fine ≡ Fine) × (n ≤ mostLetters)
+  received-fine e = go (orderTest k b false Fine) refl
+    where
+      go : (c : Checked) → orderTest k b false Fine ≡ c → (orderTest k b false Fine ≡ Fine) × (n ≤ mostLetters)
+      go Fine p = (p, ltb-false mostLetters n (fine (overlong n) Overlong (sym (order-then k b false (refuse (overlong n) Overlong Fine) p) ∙ e)))
+      go (Refused u) p = let q : Fine ≡ Refused u = sym e ∙ order-refused k b false u (refuse (overlong n) Overlong Fine) p in let z : _≡_ {A = ℕ} 0 1 = cc in absurd (omega arith)
+
+  pub fine-received : orderTest k b false Fine ≡ Fine → n ≤ mostLetters → receivedTest k b n Fine ≡ Fine
+  fine-received o h = order-then k b false (refuse (overlong n) Overlong Fine) o ∙ rw (le-ltb mostLetters n h)
+
+  -- a further test behind tests 1 to 4 that are not met
+  pub received-then : (next : Checked) → receivedTest k b n Fine ≡ Fine → receivedTest k b n next ≡ next
+  received-then next e =
+      let p = received-fine e in
+      order-then k b false (refuse (overlong n) Overlong next) (p .0) ∙ rw (le-ltb mostLetters n (p .1))
+
+  -- a further test behind tests 1 to 4 of which one is met
+  pub received-refused : (u : Refusal) (next : Checked) → receivedTest k b n Fine ≡ Refused u → receivedTest k b n next ≡ Refused u
+  received-refused u next e = go (orderTest k b false Fine) refl
+    where
+      go : (c : Checked) → orderTest k b false Fine ≡ c → receivedTest k b n next ≡ Refused u
+      go Fine p = order-then k b false (refuse (overlong n) Overlong next) p ∙ refused (overlong n) Overlong u next (sym (order-then k b false (refuse (overlong n) Overlong Fine) p) ∙ e)
+      go (Refused v) p = order-refused k b false v (refuse (overlong n) Overlong next) p ∙ (sym (order-refused k b false v (refuse (overlong n) Overlong Fine) p) ∙ e)
+
+-- The tests behind 1 to 4, in their order
+
+module _ (k b : ℕ) (cs : List ℕ) (received : receivedTest k b (length cs) Fine ≡ Fine) where
+  module _ (n m : ℕ) where
+    pub read-short : shortBuffers k b n m ≡ true → readTest k b cs n m ≡ Refused ShortBuffer
+    read-short e = received-then k b (length cs) _ received ∙ rw e
+
+    pub read-foreign : (i : ℕ) → shortBuffers k b n m ≡ false → decoded cs ≡ D.Foreign i → readTest k b cs n m ≡ Refused (ForeignLetter i)
+    read-foreign i e d = received-then k b (length cs) _ received ∙ rw (e, d)
+
+    pub read-fine : shortBuffers k b n m ≡ false → decoded cs ≡ D.Whole → readTest k b cs n m ≡ Fine
+    read-fine e d = received-then k b (length cs) _ received ∙ rw (e, d)
+
+  module _ (i : ℕ) where
+    pub piece-foreign : (j : ℕ) → decoded cs ≡ D.Foreign j → pieceTest k b cs i ≡ Refused (ForeignLetter j)
+    piece-foreign j d = received-then k b (length cs) _ received ∙ rw d
+
+    pub piece-outside : decoded cs ≡ D.Whole → outside 1 (length (layoutOf k b)) i ≡ true → pieceTest k b cs i ≡ Refused NoSuchSegment
+    piece-outside d e = received-then k b (length cs) _ received ∙ rw (d, e)
+
+    pub piece-fine : decoded cs ≡ D.Whole → outside 1 (length (layoutOf k b)) i ≡ false → pieceTest k b cs i ≡ Fine
+    piece-fine d e = received-then k b (length cs) _ received ∙ rw (d, e)
+
+not-foreign : (d : Decoded) (next : Checked) → foreignTest d next ≡ Fine → (d ≡ D.Whole) × (next ≡ Fine)
+not-foreign D.Whole next e = (refl, e)
+not-foreign (D.Foreign j) next e = let z : _≡_ {A = ℕ} 0 1 = cc in absurd (omega arith)
+
+-- what holds of a call that is taken: tests 1 to 4 are not met, and neither is what follows
+pub received-taken : (k b n : ℕ) (next : Checked) → receivedTest k b n next ≡ Fine → (receivedTest k b n Fine ≡ Fine) × (next ≡ Fine)
+received-taken k b n next e = go (receivedTest k b n Fine) refl
+  where
+    go : (c : Checked) → receivedTest k b n Fine ≡ c → (receivedTest k b n Fine ≡ Fine) × (next ≡ Fine)
+    go Fine p = (p, sym (received-then k b n next p) ∙ e)
+    go (Refused u) p = let q : Fine ≡ Refused u = sym e ∙ received-refused k b n u next p in let z : _≡_ {A = ℕ} 0 1 = cc in absurd (omega arith)
+
+-- a piece call that is taken has an order that is taken and letters alone
+pub piece-taken : (k b : ℕ) (cs : List ℕ) (i : ℕ) → pieceTest k b cs i ≡ Fine → (orderTest k b false Fine ≡ Fine) × (decoded cs ≡ D.Whole)
+piece-taken k b cs i e =
+    let p = received-taken k b (length cs) _ e in
+    (received-fine k b (length cs) (p .0) .0, not-foreign (decoded cs) _ (p .1) .0)
 
 -- equal lengths of 2 or more are a layout's
 equal-lengths : (l k : ℕ) → 2 ≤ k → Lengths (replicate l k)
@@ -47,8 +132,8 @@ pub only-short : (k b : ℕ) (bs s : List ℕ) (n m : ℕ) → orderTest k b fal
 only-short k b bs s n m o size e =
     let r = readable k b false bs s (order-fine k b false o) size e in
     let cs = letters s in
-    let q : overlong cs ≡ false = le-ltb mostLetters (length cs) (omega (arith, r .short, length-map s letterOf)) in
-    order-then k b false (refuse (overlong cs) Overlong (refuse (shortBuffers k b n m) ShortBuffer (foreignTest (decoded cs) Fine))) o ∙ rw (q, r .no-foreign)
+    let q : length cs ≤ mostLetters = omega (arith, r .short, length-map s letterOf) in
+    received-then k b (length cs) (refuse (shortBuffers k b n m) ShortBuffer (foreignTest (decoded cs) Fine)) (fine-received k b (length cs) o q) ∙ rw (r .no-foreign)
 
 -- what holds of the reading of a strand that keeps the conditions for the bytes bs
 pub record Kept (k b : ℕ) (cs bs : List ℕ) (n m : ℕ) : Type 0 where

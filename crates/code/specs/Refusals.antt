@@ -1,6 +1,7 @@
 -- What is turned down, and the limits.
 --   numberOf    the paper's number of a refusal
 --   placeOf     the place that a refusal names
+--   testNumber, testPlace   the same of a test's outcome
 --   refuse      a test before others
 --   limits      k, B, the number of segments, the received strand
 --   orderTest   the tests 1, 2 and 3 of k and B
@@ -36,6 +37,16 @@ placeOf (ForeignLetter i) = i
 placeOf TallyFull = 0
 placeOf Label = 0
 placeOf NoSuchSegment = 0
+
+-- the number of a test's outcome: 0 where nothing is against it
+abbrev pub testNumber : Checked → ℕ
+testNumber Fine = 0
+testNumber (Refused r) = numberOf r
+
+-- the place that a test's outcome names
+abbrev pub testPlace : Checked → ℕ
+testPlace Fine = 0
+testPlace (Refused r) = placeOf r
 
 -- a test before others: where it is met, its refusal
 abbrev pub refuse : Bool → Refusal → Checked → Checked

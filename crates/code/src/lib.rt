@@ -56,6 +56,12 @@ pub enum Counted {
     Refused(Refusal),
 }
 
+// What locating a piece answers: where it starts and where it ends.
+pub enum Located {
+    At(usize, usize),
+    Refused(Refusal),
+}
+
 // What reading a label answers: k and B.
 pub enum Order {
     Is(usize, usize),

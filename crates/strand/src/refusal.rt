@@ -22,7 +22,7 @@ pub const MOST_SEGMENTS: u32 = 64;
 pub const MOST_LETTERS: usize = 2048;
 
 // x is outside low .. high.
-fn outside(low: u32, high: u32, x: u32) -> bool
+pub fn outside(low: u32, high: u32, x: u32) -> bool
     ensures { λ r. ⌜ r ≡ R.outside low high x ⌝ }
 {
     x < low || high < x

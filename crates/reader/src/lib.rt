@@ -1,0 +1,3 @@
+// The reader: received letters to bytes, sheet, counts and pieces.
+pub mod call;
+pub mod walk;
