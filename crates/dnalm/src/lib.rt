@@ -1,13 +1,19 @@
 // The public calls, each with its whole promise. No call asks anything of its caller.
 ghost use mathlib.Core.Path.{_≡_};
 ghost use mathlib.Core.Bool.{false};
+ghost use Prim.Native.Nat.{_-_};
 ghost use lib.ListN.{length};
 ghost use Rattle.code.specs.Layout.{extent, layoutOf};
-ghost use Rattle.code.specs.Refusals.{numberOf, placeOf};
+ghost use Rattle.code.specs.Refusals.{numberOf, placeOf, testNumber, testPlace};
 ghost use Rattle.code.specs.Writing.{strandOf, writeTest, wroteOf, bufferOf};
+ghost use Rattle.code.specs.Strands.{marksOf};
+ghost use Rattle.code.specs.ReadCall.{readTest, pieceTest, outcomesOf, countedOf, bytesOf, sheetFor, startOf, pieceLength, pieceOf, partOf, locatedOf};
+ghost use Rattle.code.specs.ReadCallLaws.{Demand-3-call};
 ghost use Rattle.code.specs.Label.{labelBytes, labelTest, orderOf};
 ghost use Rattle.code.specs.Tallies.{tallied};
 use code::Checked;
+use code::Counted;
+use code::Located;
 use code::Order;
 use code::Refusal;
 use code::Tallied;
@@ -24,6 +30,49 @@ pub fn write(k: u32, b: u32, message: &[u8], out: &mut [u8]) -> Wrote
     ensures { λ _. ⌜ now (out .exit) ≡ bufferOf (writeTest k b (now (message .entry)) (length (now (out .entry)))) (strandOf (layoutOf k b) (now (message .entry))) (now (out .entry)) ⌝ }
 {
     strand::writer::write(k, b, message, out)
+}
+
+// Reads a strand: the received `letters`, written for k = `k` and B = `b`. The B bytes of the message go to the front of `message`,
+// zeros where a segment is lost; the sheet goes to the front of `sheet`, two bits for each of the l segments, the first in the
+// highest bits: 0 clean, 1 corrected, 2 lost. Answers how many segments are clean, corrected and lost.
+// Turned down, in this order: 1 k is not 2 to 64; 2 B is not 1 to 128; 3 4B is not a multiple of k, or makes more than 64
+// segments; 4 there are more than 2,048 letters; 5 `message` has fewer than B bytes, or `sheet` fewer than one for each four
+// segments; 6 a byte is none of A, T, C and G, with the first such place.
+// The bytes behind the message and behind the sheet are untouched; a refusal leaves both buffers as they were.
+// The last clause is demand 3: letters with at most one edit in each segment give the message that was written, and nothing lost.
+pub fn read(k: u32, b: u32, letters: &[u8], message: &mut [u8], sheet: &mut [u8]) -> Counted
+    ensures { λ r. ⌜ r ≡ countedOf (readTest k b (now (letters .entry)) (length (now (message .entry))) (length (now (sheet .entry)))) (marksOf (outcomesOf k b (now (letters .entry)))) ⌝ }
+    ensures { λ _. ⌜ now (message .exit) ≡ bufferOf (readTest k b (now (letters .entry)) (length (now (message .entry))) (length (now (sheet .entry)))) (bytesOf k b (now (letters .entry))) (now (message .entry)) ⌝ }
+    ensures { λ _. ⌜ now (sheet .exit) ≡ bufferOf (readTest k b (now (letters .entry)) (length (now (message .entry))) (length (now (sheet .entry)))) (sheetFor k b (now (letters .entry))) (now (sheet .entry)) ⌝ }
+    ensures { λ r. ⌜ Demand-3-call k b (now (letters .entry)) r (now (message .entry)) (now (message .exit)) (now (sheet .entry)) (now (sheet .exit)) ⌝ }
+{
+    reader::call::read(k, b, letters, message, sheet)
+}
+
+// Hands back the piece of a segment, from 1: its stretch of the caller's own `letters`, received for k and B; `number` and
+// `place` become 0.
+// Turned down, in this order: 1 to 4 and 6 as for a reading; 9 there is no such segment. Then the part is empty, and `number` and
+// `place` become those of the refusal.
+pub fn piece<'a>(
+    k: u32,
+    b: u32,
+    letters: &'a [u8],
+    segment: u32,
+    number: &mut u8,
+    place: &mut usize,
+) -> &'a [u8]
+    ensures { λ r. ⌜ now r ≡ partOf (pieceTest k b (now (letters .entry)) segment) (pieceOf (outcomesOf k b (now (letters .entry))) (now (letters .entry)) segment) ⌝ }
+    ensures { λ _. ⌜ now (number .exit) ≡ testNumber (pieceTest k b (now (letters .entry)) segment) ⌝ }
+    ensures { λ _. ⌜ now (place .exit) ≡ testPlace (pieceTest k b (now (letters .entry)) segment) ⌝ }
+{
+    reader::call::piece(k, b, letters, segment, number, place)
+}
+
+// Answers where that piece starts and where it ends, or the refusal; for callers that take places and not a part.
+pub fn locate(k: u32, b: u32, letters: &[u8], segment: u32) -> Located
+    ensures { λ r. ⌜ r ≡ locatedOf (pieceTest k b (now (letters .entry)) segment) (startOf (outcomesOf k b (now (letters .entry))) (segment - 1)) (pieceLength (outcomesOf k b (now (letters .entry))) (segment - 1)) ⌝ }
+{
+    reader::call::locate(k, b, letters, segment)
 }
 
 // Writes the label of k and B: four bytes, most significant first, at the front of `out`: edition 1 in 4 bits, k in 7, B in 8, and
