@@ -64,7 +64,7 @@ pub enum Located {
 
 // What reading a label answers: k and B.
 pub enum Order {
-    Is(usize, usize),
+    Is(u32, u32),
     Refused(Refusal),
 }
 

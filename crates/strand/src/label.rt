@@ -85,7 +85,7 @@ pub fn read(bytes: &[u8]) -> Order
     let b = (n >> 13) & 255;
     let tested = refusal::order_test(k, b, false);
     match tested {
-        Checked::Fine => Order::Is(k as usize, b as usize),
+        Checked::Fine => Order::Is(k, b),
         Checked::Refused(r) => Order::Refused(r),
     }
 }

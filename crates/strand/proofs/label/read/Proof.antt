@@ -35,8 +35,6 @@ read-spec =
     sym (order-spare bs (omega arith) (omega arith) (λ e. c .if3 .taken (omega (arith, mask-spare (c .before .before .number-of-four .result))))))
     (λ c κs. tt)
     (λ c. search needs)
-    (λ c. rw mask-length (omega arith))
-    (λ c. rw mask-byte (omega arith))
     (λ c. search needs)
     (λ c.
     let bs = c .before .before .before .before .before .before .before .before .args .bytes .now in

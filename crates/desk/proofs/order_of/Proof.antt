@@ -1,0 +1,19 @@
+use mathlib.Core.Path.{_≡_, sym, _∙_}
+use borrow.Author.Needs.{needs}
+use Rattle.desk.proofs.Lines.{other-length, no-digits, label-line}
+use Rattle.desk.proofs.order_of.Statement.{statement}
+use Rattle.desk.proofs.order_of.Tie as tie
+
+pub order-of-spec : {M : Type 1} → statement M
+order-of-spec =
+    tie.close
+    (tie.spec
+    (λ c. other-length (c .before .before .args .line .now) (c .if1 .taken))
+    (λ c. search needs)
+    (λ c κs. search needs)
+    (λ c. search needs)
+    (λ c. search needs)
+    (λ c. no-digits (c .before .before .before .before .before .before .before .args .line .now) (c .before .before .before .before .before .if1 .left) _ (sym (c .before .before .before .decode .ensures .0) ∙ c .enum-told2 .given .1))
+    (λ c. search needs)
+    (λ c κs. search needs)
+    (λ c. c .read-label .ensures ∙ label-line (c .before .before .before .before .before .before .before .before .before .args .line .now) (c .before .before .before .before .before .before .before .if1 .left) _ _ _ (sym (c .before .before .before .before .before .decode .ensures .0) ∙ c .before .before .enum-told .given .1) (c .before .before .before .before .before .decode .ensures .1)))

@@ -1,0 +1,38 @@
+// What both programs share: the label's line, and the line for a refusal.
+use code::Order;
+use code::Refusal;
+use libc::STDOUT_FILENO;
+use text::Hex;
+ghost use mathlib.Core.Path.{_≡_};
+ghost use Rattle.desk.specs.LabelLine.{orderLine};
+
+// A word of the output.
+pub fn word(text: &[u8]) {
+    io::write_all(STDOUT_FILENO, text);
+}
+
+// A number of the output, in decimal digits.
+pub fn number(n: u32) {
+    io::print_decimal(STDOUT_FILENO, n as u64);
+}
+
+// The line for a refusal.
+pub fn refuse(r: Refusal) {
+    word(b"refused ");
+    number(dnalm::refusal_number(r) as u32);
+    word(b"\n");
+}
+
+// k and B of the line that holds the label: four bytes, two digits each, or refused 8.
+pub fn order_of(line: &[u8]) -> Order
+    ensures { λ r. ⌜ r ≡ orderLine (now (line .entry)) ⌝ }
+{
+    let mut label = [0u8; 4];
+    if line.len() != 8 {
+        return Order::Refused(Refusal::Label);
+    }
+    let Hex::Bytes(_) = text::digits::decode(line, &mut label) else {
+        return Order::Refused(Refusal::Label);
+    };
+    dnalm::read_label(&label)
+}
