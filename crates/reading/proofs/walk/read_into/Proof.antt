@@ -1,9 +1,9 @@
-use mathlib.Core.Path.{_≡_, sym, ap, subst, _∙_}
-use Prim.Native.Nat.{ℕ, _+_, _-_}
+use mathlib.Core.Path.{_≡_, ap, subst, _∙_}
+use Prim.Native.Nat.{ℕ}
 use native.Mathlib.Omega.{arith}
 use borrow.Author.Needs.{needs}
-use lib.ListN.{length, take, drop}
-use Rattle.reading.specs.Steps.{Step, stepOf}
+use lib.ListN.{length}
+use Rattle.reading.specs.Steps.{stepOf}
 use Rattle.reading.specs.Nexts.{IsNext}
 use Rattle.reading.proofs.Walking.{part-put, part-length}
 use Rattle.reading.proofs.walk.read_into.Statement.{statement}
