@@ -1,12 +1,12 @@
-use mathlib.Core.Path.{_≡_, sym}
-use Prim.Native.Nat.{_+_, _*_, _≤_}
+use mathlib.Core.Path.{sym}
+use Prim.Native.Nat.{_+_, _≤_}
 use native.Mathlib.Nat.{mul-le-mul}
 use native.Mathlib.Omega.{arith}
 use borrow.Author.Needs.{needs}
 use Rattle.code.specs.LayersLaws.{width-least}
 use Rattle.code.specs.LayoutLaws.{extent-equal}
-use Rattle.strand.proofs.writer.extent_of.Statement.{statement}
-use Rattle.strand.proofs.writer.extent_of.Tie as tie
+use Rattle.layout.proofs.extent_of.Statement.{statement}
+use Rattle.layout.proofs.extent_of.Tie as tie
 
 pub extent-of-spec : {M : Type 1} → statement M
 extent-of-spec =

@@ -1,17 +1,16 @@
-use mathlib.Core.Path.{_≡_, refl, _∙_}
+use mathlib.Core.Path.{refl, _∙_}
 use Prim.Native.Nat.{_+_, _-_}
 use native.Mathlib.Omega.{arith}
-use borrow.Author.Needs.{needs}
 use lib.ListN.{length, getD, drop}
 use Rattle.code.specs.BelowLaws.{below-take, below-drop}
 use Rattle.segment.proofs.size_of.Reads as size-of-reads
 use Rattle.segment.proofs.write_segment.Reads as write-segment-reads
 use Rattle.segment.specs.Spelling.{spelled-letters}
-use Rattle.strand.proofs.Written.{Standing, Step, begin, step, turn, end}
-use Rattle.strand.proofs.writer.write_layout.Lts as lts
-use Rattle.strand.proofs.writer.write_layout.Reads as reads
-use Rattle.strand.proofs.writer.write_layout.Statement.{statement}
-use Rattle.strand.proofs.writer.write_layout.Tie as tie
+use Rattle.layout.proofs.Written.{Standing, Step, begin, step, turn, end}
+use Rattle.layout.proofs.write_layout.Lts as lts
+use Rattle.layout.proofs.write_layout.Reads as reads
+use Rattle.layout.proofs.write_layout.Statement.{statement}
+use Rattle.layout.proofs.write_layout.Tie as tie
 
 abbrev Inv-loop : tie.InvT-loop
 Inv-loop lengths symbols out₀ i₀ from₀ at₀ f₀ marked₀ t11 out i from at f marked = Standing lengths symbols out₀ i from at f marked out

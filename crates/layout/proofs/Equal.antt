@@ -2,10 +2,10 @@
 --   equal-lengths, equal-sum, equal-extent    what the writer asks of the lengths
 --   unpacked                                  the front of an array that bytes were unpacked to
 --   equal-strand                              the strand that is written
-use mathlib.Core.Path.{_≡_, refl, sym, ap, _∙_}
+use mathlib.Core.Path.{_≡_}
 use mathlib.Core.Bool.{false}
 use mathlib.Core.List.{List, _++_}
-use Prim.Native.Nat.{ℕ, _*_, _<_, _≤_}
+use Prim.Native.Nat.{ℕ, _*_, _≤_}
 use native.Mathlib.Omega.{arith}
 use lib.ListN.{length, getD, take, drop, replicate, length-replicate, getD-replicate}
 use lib.Seq.{take-at}
@@ -15,7 +15,7 @@ use Rattle.code.specs.SymbolsLaws.{length-symbols}
 use Rattle.code.specs.Layout.{sum, cut, strand, extent}
 use Rattle.code.specs.LayoutLaws.{sum-equal}
 use Rattle.code.specs.Writing.{strandOf}
-use Rattle.strand.specs.Lengths.{Lengths}
+use Rattle.layout.specs.Lengths.{Lengths}
 
 -- the front of an array that bytes were unpacked to
 pub unpacked : (m a r : List ℕ) → a ≡ symbols m ++ r → take (4 * length m) a ≡ symbols m

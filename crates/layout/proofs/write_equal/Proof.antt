@@ -1,13 +1,13 @@
-use mathlib.Core.Path.{_≡_, sym, _∙_}
-use Prim.Native.Nat.{ℕ, _*_}
+use mathlib.Core.Path.{sym, _∙_}
+use Prim.Native.Nat.{_*_}
 use native.Mathlib.Omega.{arith}
 use borrow.Author.Needs.{needs}
 use lib.ListN.{length, replicate}
 use lib.Seq.{length-take-le}
 use Rattle.code.specs.SymbolsLaws.{length-symbols, symbols-below}
-use Rattle.strand.proofs.Equal.{unpacked, equal-lengths, equal-sum, equal-extent, equal-strand}
-use Rattle.strand.proofs.writer.write_equal.Statement.{statement}
-use Rattle.strand.proofs.writer.write_equal.Tie as tie
+use Rattle.layout.proofs.Equal.{unpacked, equal-lengths, equal-sum, equal-extent, equal-strand}
+use Rattle.layout.proofs.write_equal.Statement.{statement}
+use Rattle.layout.proofs.write_equal.Tie as tie
 
 pub write-equal-spec : {M : Type 1} → statement M
 write-equal-spec =
