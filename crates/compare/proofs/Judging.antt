@@ -1,6 +1,6 @@
 -- What the first difference and the rest behind it tell of the judgement.
 use mathlib.Core.Path.{_≡_, refl, sym, ap, subst, _∙_}
-use mathlib.Core.Bool.{true, false, true≢false}
+use mathlib.Core.Bool.{Bool, true, false, cond, true≢false}
 use mathlib.Core.List.{List}
 use mathlib.Core.Option.{some, none}
 use Prim.Native.Nat.{ℕ, suc, _+_, _-_, _≤_, _<_}
@@ -19,7 +19,7 @@ use Rattle.code.specs.declared.Edit.the-variants.{None, Sub, Del, Ins}
 use Rattle.compare.specs.Judgement.{common, runStart}
 use Rattle.compare.proofs.Leaving.{leave-low, leave-high, leave-put, put-leave, leave-past, leave-le, leave-ge}
 use Rattle.compare.proofs.Standing.{starts-equal, starts-whole}
-use Rattle.compare.proofs.Sharing.{shared, shared-at, common-self, common-sym, set-rest, leave-rest, Run, run}
+use Rattle.compare.proofs.Sharing.{shared, shared-at, common-self, set-rest, leave-rest, Run, run}
 
 -- Which edits the lengths rule out
 
@@ -86,7 +86,7 @@ module _ (w v : List ℕ) (i : ℕ) (as-many : length v ≡ length w) (found : i
         rest : (j : ℕ) → set w j (getD v j 0) ≡ v → drop (i + 1) w ≡ drop (i + 1) v
         rest j e = rw (add-one, found) (subst (λ (u : List ℕ). drop (suc (common w u)) w ≡ drop (suc (common w u)) u) e (set-rest j (getD v j 0) w))
 
--- One letter left out of the longer of two lists
+-- One letter less or more: it is left out of the longer list
 
 module _ (long short : List ℕ) (i : ℕ) (one : length short + 1 ≡ length long) (found : i ≡ common long short) where
   within : i < length long
@@ -121,47 +121,34 @@ module _ (long short : List ℕ) (i : ℕ) (one : length short + 1 ≡ length lo
       rest : drop (i + 1) long ≡ drop i short
       rest = rw (add-one, found) (subst (λ (u : List ℕ). drop (suc (common long u)) long ≡ drop (common long u) u) e (leave-rest j long))
 
--- One letter less
+  unlike : long ≡ short → ⊥
+  unlike e = omega (arith, ap length e)
 
-module _ (w v : List ℕ) (i : ℕ) (less : length v + 1 ≡ length w) (found : i ≡ common w v) where
-  shorter : w ≡ v → ⊥
-  shorter e = omega (arith, ap length e)
+  -- a letter put in is one that is left out of the longer
+  out : (j : ℕ) → j ≤ length short → putIn j (getD long j 0) short ≡ long → leaveOut j long ≡ short
+  out j h e = ap (λ (u : List ℕ). leaveOut j u) (sym e) ∙ leave-put j (getD long j 0) short h
 
-  pub less-del : starts (from w (i + 1)) (drop i v) ≡ true → (p : ℕ) → p ≡ runStart w (getD w i 0) i → p ≤ i → judged w v ≡ some (Del p (getD w p 0))
-  less-del t p start h =
-      let b = within w v i less found in
-      judged-del w v shorter p (omega arith)
-      (λ j l. miss-less w v j (omega arith) less (before-gone w v i less found t p start j l))
-      (λ e. omega (arith, set-length w v p (omega arith) e))
-      (first-gone w v i less found t p start)
+  pub one-many : (less : Bool) → starts (from long (i + 1)) (drop i short) ≡ false → judged (cond less long short) (cond less short long) ≡ none
+  one-many true t = judged-missed long short unlike (λ j l. miss-less long short j l one (never-gone t j))
+  one-many false t = judged-missed short long (λ e. unlike (sym e)) (λ j l. miss-more short long j l (sym one) (λ e. never-gone t j (out j l e)))
 
-  pub less-many : starts (from w (i + 1)) (drop i v) ≡ false → judged w v ≡ none
-  less-many t = judged-missed w v shorter (λ j l. miss-less w v j l less (never-gone w v i less found t j))
+  module _ (t : starts (from long (i + 1)) (drop i short) ≡ true) (p : ℕ) (start : p ≡ runStart long (getD long i 0) i) (h : p ≤ i) where
+    pub one-less : judged long short ≡ some (Del p (getD long p 0))
+    one-less =
+        let b = within in
+        judged-del long short unlike p (omega arith)
+        (λ j l. miss-less long short j (omega arith) one (before-gone t p start j l))
+        (λ e. omega (arith, set-length long short p (omega arith) e))
+        (first-gone t p start)
 
--- One letter more: the piece without it is the segment
-
-module _ (w v : List ℕ) (i : ℕ) (more : length v ≡ length w + 1) (found : i ≡ common w v) where
-  longer : w ≡ v → ⊥
-  longer e = omega (arith, ap length e)
-
-  turned : i ≡ common v w
-  turned = found ∙ common-sym w v
-
-  out : (j : ℕ) → j ≤ length w → putIn j (getD v j 0) w ≡ v → leaveOut j v ≡ w
-  out j h e = ap (λ (u : List ℕ). leaveOut j u) (sym e) ∙ leave-put j (getD v j 0) w h
-
-  pub more-ins : starts (from v (i + 1)) (drop i w) ≡ true → (p : ℕ) → p ≡ runStart v (getD v i 0) i → p ≤ i → judged w v ≡ some (Ins p (getD v p 0))
-  more-ins t p start h =
-      let b = within v w i (sym more) turned in
-      let g = first-gone v w i (sym more) turned t p start in
-      judged-ins w v longer p (omega arith)
-      (λ j l. miss-more w v j (omega arith) more (λ e. before-gone v w i (sym more) turned t p start j l (out j (omega arith) e)))
-      (λ e. omega (arith, set-length w v p (omega arith) e))
-      (λ e. omega (arith, ap length e, leave-le p w))
-      (ap (λ (u : List ℕ). putIn p (getD v p 0) u) (sym g) ∙ put-leave p v (omega arith))
-
-  pub more-many : starts (from v (i + 1)) (drop i w) ≡ false → judged w v ≡ none
-  more-many t = judged-missed w v longer (λ j l. miss-more w v j l more (λ e. never-gone v w i (sym more) turned t j (out j l e)))
+    pub one-more : judged short long ≡ some (Ins p (getD long p 0))
+    one-more =
+        let b = within in
+        judged-ins short long (λ e. unlike (sym e)) p (omega arith)
+        (λ j l. miss-more short long j (omega arith) (sym one) (λ e. before-gone t p start j l (out j (omega arith) e)))
+        (λ e. omega (arith, set-length short long p (omega arith) e))
+        (λ e. omega (arith, ap length e, leave-le p short))
+        (ap (λ (u : List ℕ). putIn p (getD long p 0) u) (sym (first-gone t p start)) ∙ put-leave p long (omega arith))
 
 -- Lengths further apart
 

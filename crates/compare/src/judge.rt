@@ -2,6 +2,7 @@
 use crate::tests::stands_at;
 use code::Edit;
 ghost use mathlib.Core.Path.{_≡_};
+ghost use mathlib.Core.Bool.{cond};
 ghost use Prim.Native.Nat.{_+_, _-_, _<_, _≤_};
 ghost use lib.ListN.{length, take, drop, getD};
 ghost use Rattle.code.specs.Edits.{judged};
@@ -61,30 +62,21 @@ fn judge_changed(written: &[u8], piece: &[u8], i: usize) -> Judged
     Judged::Many
 }
 
-// One symbol less: the first place of its run is named.
-fn judge_less(written: &[u8], piece: &[u8], i: usize) -> Judged
-    requires { ⌜ (length (now written) < 65536) × (length (now piece) + 1 ≡ length (now written)) × (i ≤ length (now piece)) × (i ≡ common (now written) (now piece)) ⌝ }
-    ensures { λ r. ⌜ r ≡ judgedAs (judged (now (written .entry)) (now (piece .entry))) ⌝ }
+// One symbol less, or one more, in the piece: the first place of its run is named.
+fn judge_run(long: &[u8], short: &[u8], i: usize, less: bool) -> Judged
+    requires { ⌜ (length (now long) < 65536) × (length (now short) + 1 ≡ length (now long)) × (i ≤ length (now short)) × (i ≡ common (now long) (now short)) ⌝ }
+    ensures { λ r. ⌜ r ≡ judgedAs (judged (cond less (now (long .entry)) (now (short .entry))) (cond less (now (short .entry)) (now (long .entry)))) ⌝ }
 {
     let next = i + 1;
-    if stands_at(&written[next..], piece, i) {
-        let p = run_start(written, i);
-        return Judged::Is(Edit::Del(p, written[p]));
+    if !stands_at(&long[next..], short, i) {
+        return Judged::Many;
     }
-    Judged::Many
-}
-
-// One symbol more: the first place of its run is named.
-fn judge_more(written: &[u8], piece: &[u8], i: usize) -> Judged
-    requires { ⌜ (length (now piece) < 65536) × (length (now piece) ≡ length (now written) + 1) × (i ≤ length (now written)) × (i ≡ common (now written) (now piece)) ⌝ }
-    ensures { λ r. ⌜ r ≡ judgedAs (judged (now (written .entry)) (now (piece .entry))) ⌝ }
-{
-    let next = i + 1;
-    if stands_at(&piece[next..], written, i) {
-        let p = run_start(piece, i);
-        return Judged::Is(Edit::Ins(p, piece[p]));
+    let p = run_start(long, i);
+    let x = long[p];
+    if less {
+        return Judged::Is(Edit::Del(p, x));
     }
-    Judged::Many
+    Judged::Is(Edit::Ins(p, x))
 }
 
 // The judgement of a whole piece.
@@ -97,10 +89,10 @@ fn judge_piece(written: &[u8], piece: &[u8]) -> Judged
         return judge_changed(written, piece, i);
     }
     if piece.len() + 1 == written.len() {
-        return judge_less(written, piece, i);
+        return judge_run(written, piece, i, true);
     }
     if piece.len() == written.len() + 1 {
-        return judge_more(written, piece, i);
+        return judge_run(piece, written, i, false);
     }
     Judged::Many
 }

@@ -1,15 +1,15 @@
 -- The walk over a layout: what stands, followed by what is to come, is the whole.
 use mathlib.Core.Path.{_≡_, refl, sym, ap, _∙_}
 use mathlib.Core.Bool.{Bool, true, false, not}
-use mathlib.Core.List.{List, [], _∷_, _++_, map, append-assoc, append-nil}
+use mathlib.Core.List.{List, [], _∷_, _++_, append-assoc, append-nil}
 use mathlib.Core.Option.{Option, some, none}
-use Prim.Native.Nat.{ℕ, zero, suc, _+_, _-_, _≤_, _<_}
+use Prim.Native.Nat.{ℕ, zero, suc, _+_, _≤_, _<_}
 use native.Mathlib.Numerals.{add-one}
 use native.Mathlib.Omega.{arith}
 use borrow.Author.Tests.{ne-eqb}
 use lib.Dec.{eqb}
-use lib.ListN.{length, getD, take, drop, set, replicate, length-drop, length-set, length-replicate, drop-of-length-le}
-use lib.Seq.{drop-cons, drop-drop, take-all, take-suc-set, length-take-le}
+use lib.ListN.{length, getD, take, drop, set, length-drop, length-set, length-replicate, drop-of-length-le}
+use lib.Seq.{drop-cons, take-all, take-suc-set, length-take-le}
 use Rattle.code.specs.Lists.{putAt, take-put, length-put}
 use Rattle.code.specs.Segment.{size}
 use Rattle.code.specs.Reading.{readOne}
@@ -18,7 +18,7 @@ use Rattle.code.specs.Layout.{sum, joined}
 use Rattle.code.specs.Strands.{Outcome, unfound, scan, reading, outcomes, messagesOf, marksOf, markOf}
 use Rattle.code.specs.MessageLengths.{read-length}
 use Rattle.reading.specs.declared.next.Next.{Next}
-use Rattle.reading.specs.Ones.{followers}
+use Rattle.one_segment.specs.Ones.{followers}
 use Rattle.reading.specs.Steps.{Step, afterLost, afterOne, stepOf, going}
 use Rattle.reading.specs.StepsLaws.{nextOf, going-step}
 use Rattle.reading.specs.Nexts.{IsNext}

@@ -1,9 +1,9 @@
 -- A segment and the start of the next: what is answered in each case.
-use mathlib.Core.Path.{_≡_, refl, sym, ap, subst, _∙_}
+use mathlib.Core.Path.{_≡_, refl, sym, ap, _∙_}
 use mathlib.Core.Bool.{Bool, true, false}
-use mathlib.Core.List.{List, [], _∷_}
+use mathlib.Core.List.{List}
 use mathlib.Core.Option.{Option, some, none}
-use Prim.Native.Nat.{ℕ, _+_, _≤_, _<_}
+use Prim.Native.Nat.{ℕ, _+_, _≤_}
 use native.Mathlib.Omega.{arith}
 use lib.ListN.{length, drop, replicate, length-drop}
 use Rattle.code.specs.Segment.{lastOf, size}
@@ -13,10 +13,10 @@ use Rattle.code.specs.Reading as R
 use Rattle.code.specs.Strands.{scan}
 use Rattle.code.specs.declared.Edit.{Edit}
 use Rattle.code.specs.declared.Verdict.the-variants as W
-use Rattle.reading.specs.declared.one.One.{One}
-use Rattle.reading.specs.declared.one.One.the-variants.{Read, Lost}
+use Rattle.one_segment.specs.declared.One.{One}
+use Rattle.one_segment.specs.declared.One.the-variants.{Read, Lost}
 use Rattle.reading.specs.declared.next.Next.{Next}
-use Rattle.reading.specs.Ones.{followers, oneAs, Holds}
+use Rattle.one_segment.specs.Ones.{followers, oneAs, Holds}
 use Rattle.reading.specs.Steps.{Step, afterLost, afterOne, stepOf}
 use Rattle.reading.specs.Nexts.{IsNext}
 

@@ -1,48 +1,27 @@
 -- Step 10: what is answered of a lost segment.
 use mathlib.Core.Path.{_≡_, refl, sym, ap, subst, _∙_}
-use mathlib.Core.Bool.{Bool, true, false, cond}
+use mathlib.Core.Bool.{true, false}
 use mathlib.Core.List.{List, [], _∷_, _++_}
-use mathlib.Core.Option.{Option, some, none}
+use mathlib.Core.Option.{Option, none}
 use Prim.Native.Nat.{ℕ, zero, suc, _+_, _-_, _≤_, _<_}
 use native.Mathlib.Omega.{arith}
-use borrow.Author.Tests.{ltb-true}
-use lib.Dec.{ltb}
 use lib.ListN.{length, getD, take, drop, replicate, length-drop}
 use lib.Seq.{getD-drop}
 use Rattle.code.specs.Symbols.{Below}
-use Rattle.code.specs.Segment.{size}
-use Rattle.code.specs.Reading.{clean}
 use Rattle.code.specs.Strands.{above, pairs, scan}
 use Rattle.code.specs.declared.Verdict.the-variants.{Lost}
-use Rattle.reading.specs.declared.scan.Start.{Start}
-use Rattle.reading.specs.declared.scan.Start.the-variants.{At, Nowhere}
+use Rattle.scan.specs.Scans.{firstClean, letterBefore}
+use Rattle.scan.specs.ScansLaws.{scan-first}
+use Rattle.scan.proofs.Starts.{Ends, first-inside, first-above}
+use Rattle.one_segment.specs.Ones.{followers}
 use Rattle.reading.specs.declared.next.Next.{Next}
-use Rattle.reading.specs.Scans.{firstClean, letterBefore, startAt}
-use Rattle.reading.specs.ScansLaws.{scan-first}
-use Rattle.reading.specs.Ones.{followers}
 use Rattle.reading.specs.Steps.{afterLost}
 use Rattle.reading.specs.Nexts.{IsNext}
-use Rattle.reading.proofs.Ending.{first-inside}
-use Rattle.reading.proofs.OneRead.{Ends, start-at}
 
 -- one more zero
 pub zeros-more : (n : ℕ) → _++_ {A = ℕ} (replicate n 0) (0 ∷ []) ≡ replicate (suc n) 0
 zeros-more zero = refl
 zeros-more (suc n) = ap (λ (l : List ℕ). 0 ∷ l) (zeros-more n)
-
--- a start that is found among those above P is above P
-first-above : (k : ℕ) (g : ℕ → ℕ) (raw os : List ℕ) (o : ℕ) → firstClean k g raw (above os) ≡ some o → 0 < o
-unfolding above firstClean
-first-above k g raw [] o e = absurd (let z : _≡_ {A = ℕ} 0 1 = cc in omega arith)
-first-above k g raw (x ∷ os) o e = go (ltb 0 x) refl e (first-above k g raw os o)
-  where
-    found : (b : Bool) → 0 < x → cond b (some x) (firstClean k g raw (above os)) ≡ some o → (firstClean k g raw (above os) ≡ some o → 0 < o) → 0 < o
-    found true l e h = let q : x ≡ o = cc in omega arith
-    found false l e h = h e
-
-    go : (b : Bool) → ltb 0 x ≡ b → firstClean k g raw (cond b (x ∷ above os) (above os)) ≡ some o → (firstClean k g raw (above os) ≡ some o → 0 < o) → 0 < o
-    go true t e h = found (clean k (g x) (drop x raw)) (ltb-true 0 x t) e h
-    go false t e h = h e
 
 module _ (s : List ℕ) (p : ℕ) where
   abbrev S : List ℕ
@@ -88,11 +67,3 @@ module _ (s : List ℕ) (p : ℕ) where
       let pos = first-above next (letterBefore true 0 S) S (take 17 (n ∷ pairs n 1 8)) o (h .is) in
       let most = first-inside next (letterBefore true 0 S) S (above (take 17 (n ∷ pairs n 1 8))) o (h .is) in
       (omega (arith, pos), omega (arith, most, pos, length-drop p s, h .behind))
-
--- no start was found
-pub no-start : (p : ℕ) (o : Option ℕ) (x : Start) → x ≡ startAt p o → x ≡ Nowhere → o ≡ none
-no-start p o x e h = go o (sym e ∙ h)
-  where
-    go : (o : Option ℕ) → startAt p o ≡ Nowhere → o ≡ none
-    go none q = refl
-    go (some o) q = absurd (let z : _≡_ {A = ℕ} 0 1 = cc in omega arith)

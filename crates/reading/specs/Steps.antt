@@ -4,7 +4,7 @@
 --   afterOne    the step of a segment that was read or lost
 --   going       the outcomes from a start that was found, or was not
 use mathlib.Core.Bool.{Bool, true, false}
-use mathlib.Core.List.{List, [], _∷_, map}
+use mathlib.Core.List.{List, map}
 use mathlib.Core.Option.{Option, some, none}
 use Prim.Native.Nat.{ℕ, _+_, _-_}
 use lib.ListN.{length, getD, take, drop}
@@ -13,7 +13,7 @@ use Rattle.code.specs.Reading as R
 use Rattle.code.specs.Reading.{readOne}
 use Rattle.code.specs.Strands.{Outcome, lostOutcome, unfound, scan, reading}
 use Rattle.code.specs.declared.Verdict.the-variants.{Read, Lost}
-use Rattle.reading.specs.Ones.{followers}
+use Rattle.one_segment.specs.Ones.{followers}
 
 -- the outcome of a segment, whether a start was found for the next, that start, and the symbol before it
 pub record Step : Type 0 where

@@ -1,17 +1,17 @@
 -- A step carries the reading on: its outcome, followed by those from the next start.
-use mathlib.Core.Path.{_≡_, refl, sym, ap, _∙_}
+use mathlib.Core.Path.{_≡_, refl}
 use mathlib.Core.Bool.{Bool, true, false}
-use mathlib.Core.List.{List, [], _∷_, map}
+use mathlib.Core.List.{List, [], _∷_}
 use mathlib.Core.Option.{Option, some, none}
-use Prim.Native.Nat.{ℕ, zero, suc, _+_, _≤_}
+use Prim.Native.Nat.{ℕ, zero, suc}
 use native.Mathlib.Omega.{arith}
-use lib.ListN.{length, drop, getD}
+use lib.ListN.{drop}
 use lib.Seq.{drop-drop}
-use Rattle.code.specs.Segment.{lastOf, size}
+use Rattle.code.specs.Segment.{size}
 use Rattle.code.specs.Reading.{got, message, lost, endOf, withMessage, readOne}
 use Rattle.code.specs.Reading as R
-use Rattle.code.specs.Strands.{Outcome, unfound, scan, withScan, withOne, reading}
-use Rattle.reading.specs.Ones.{followers}
+use Rattle.code.specs.Strands.{Outcome, scan, withScan, withOne, reading}
+use Rattle.one_segment.specs.Ones.{followers}
 use Rattle.reading.specs.Steps.{Step, afterLost, afterOne, stepOf, going}
 
 -- the length behind a segment, 0 for none

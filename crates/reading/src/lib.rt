@@ -1,5 +1,3 @@
-// The reading steps.
+// The walk over the segments of a strand.
 pub mod next;
-pub mod one;
-pub mod scan;
 pub mod walk;

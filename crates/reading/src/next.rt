@@ -1,17 +1,17 @@
 // Step 10, and with it a segment and the start of the next.
-use crate::one::One;
-use crate::one::read_one;
-use crate::scan::Start;
-use crate::scan::find_clean;
 use code::Verdict;
+use one_segment::One;
+use one_segment::read_one;
+use scan::Start;
+use scan::find_clean;
 use segment::size_of;
 ghost use mathlib.Core.Path.{_≡_};
-ghost use Prim.Native.Nat.{_+_, _<_, _≤_};
+ghost use Prim.Native.Nat.{_<_, _≤_};
 ghost use lib.ListN.{length, drop, replicate};
 ghost use Rattle.code.specs.Symbols.{Below};
 ghost use Rattle.code.specs.Segment.{size};
 ghost use Rattle.code.specs.Strands.{scan};
-ghost use Rattle.reading.specs.Ones.{followers};
+ghost use Rattle.one_segment.specs.Ones.{followers};
 ghost use Rattle.reading.specs.Steps.{afterLost, stepOf};
 ghost use Rattle.reading.specs.Nexts.{IsNext};
 

@@ -3,7 +3,7 @@ use crate::next::Next;
 use crate::next::read_next;
 use code::Verdict;
 ghost use mathlib.Core.Path.{_≡_};
-ghost use Prim.Native.Nat.{_+_, _-_, _<_, _≤_};
+ghost use Prim.Native.Nat.{_+_, _<_, _≤_};
 ghost use lib.ListN.{length, drop};
 ghost use Rattle.code.specs.Lists.{putAt};
 ghost use Rattle.code.specs.Symbols.{Below};

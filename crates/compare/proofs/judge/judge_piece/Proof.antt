@@ -1,7 +1,7 @@
-use mathlib.Core.Path.{sym, ap}
+use mathlib.Core.Path.{sym, ap, _∙_}
 use native.Mathlib.Omega.{arith}
 use Rattle.compare.specs.Judgement.{judgedAs}
-use Rattle.compare.proofs.Sharing.{shared}
+use Rattle.compare.proofs.Sharing.{shared, common-sym}
 use Rattle.compare.proofs.Judging.{far-many}
 use Rattle.compare.proofs.judge.judge_piece.Statement.{statement}
 use Rattle.compare.proofs.judge.judge_piece.Tie as tie
@@ -19,14 +19,14 @@ judge-piece-spec =
     let f = c .before .before .first-difference in
     let s = shared (a .written .now) (a .piece .now) in
     (omega arith, omega arith, omega (arith, f .ensures), f .ensures))
-    (λ c. c .judge-less .ensures)
+    (λ c. c .judge-run .ensures)
     (λ c. omega arith)
     (λ c κs.
     let a = c .before .before .before .before .before .before .args in
     let f = c .before .before .before .first-difference in
     let s = shared (a .written .now) (a .piece .now) in
-    (omega arith, omega arith, omega (arith, f .ensures), f .ensures))
-    (λ c. c .judge-more .ensures)
+    (omega arith, omega arith, omega (arith, f .ensures), f .ensures ∙ common-sym (a .written .now) (a .piece .now)))
+    (λ c. c .judge-run2 .ensures)
     (λ c.
     let a = c .before .before .before .before .before .before .args in
     sym (ap judgedAs (far-many (a .written .now) (a .piece .now) (c .before .before .if1 .left) (c .before .if2 .left) (c .if3 .left)))))

@@ -1,11 +1,9 @@
-use mathlib.Core.Path.{_≡_, refl, sym, ap, _∙_}
+use mathlib.Core.Path.{refl, _∙_}
 use borrow.Author.Needs.{needs}
 use native.Mathlib.Omega.{arith}
-use lib.ListN.{length}
 use Rattle.code.specs.Segment.{size}
-use Rattle.reading.proofs.Ending.{size-room}
-use Rattle.reading.proofs.OneRead.{start-at}
-use Rattle.reading.proofs.Stepping.{scan-last, scan-next, next-none, next-some, start-inside, no-start}
+use Rattle.scan.proofs.Starts.{size-room, start-at, no-start}
+use Rattle.reading.proofs.Stepping.{scan-last, scan-next, next-none, next-some, start-inside}
 use Rattle.reading.proofs.next.after_lost.Statement.{statement}
 use Rattle.reading.proofs.next.after_lost.Tie as tie
 

@@ -1,11 +1,11 @@
-use mathlib.Core.Path.{_≡_, refl, sym, ap, subst, _∙_}
+use mathlib.Core.Path.{_≡_, refl, ap, subst, _∙_}
 use Prim.Native.Nat.{ℕ}
 use borrow.Author.Needs.{needs}
 use borrow.Author.Tests.{not-true, not-false}
 use lib.ListN.{length, drop, replicate}
 use Rattle.code.specs.Segment.{size}
 use Rattle.code.specs.Strands.{scan}
-use Rattle.reading.specs.Ones.{followers}
+use Rattle.one_segment.specs.Ones.{followers}
 use Rattle.reading.specs.Steps.{afterLost}
 use Rattle.reading.specs.Nexts.{IsNext}
 use native.Mathlib.Omega.{arith}

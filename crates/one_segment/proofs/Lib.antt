@@ -1,0 +1,3 @@
+pub mod Ending
+pub mod Comparing
+pub mod OneRead
