@@ -84,9 +84,10 @@ pub fn decode(letters: &[u8], out: &mut [u8]) -> Decoded
     requires { ⌜ length (now letters) ≤ length (now out) ⌝ }
     ensures { λ r. ⌜ (r ≡ decoded (now (letters .entry))) × (now (out .exit) ≡ legible (now (letters .entry)) ++ drop (length (legible (now (letters .entry)))) (now (out .entry))) ⌝ }
 {
+    let codes = table::CODES;
     let mut i = 0;
     while i < letters.len() {
-        let s = code_of(letters[i]);
+        let s = codes[letters[i] as usize];
         let next = i + 1;
         if s == 4 {
             return Decoded::Foreign(i);

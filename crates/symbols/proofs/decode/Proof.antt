@@ -5,16 +5,16 @@ use native.Mathlib.Omega.{arith}
 use lib.ListN.{length, getD, take, drop, length-set}
 use Rattle.code.specs.Lists.{write-next, write-all}
 use Rattle.code.specs.Symbols.{legible}
-use Rattle.symbols.proofs.Codes.{code-symbol, code-foreign}
+use Rattle.symbols.proofs.Codes.{code-at, code-symbol, code-foreign}
 use Rattle.symbols.proofs.Steps.{Letters, none-read, legible-next, one-more, verdict-foreign, length-foreign, verdict-whole, length-whole}
 use Rattle.symbols.proofs.decode.Statement.{statement}
 use Rattle.symbols.proofs.decode.Tie as tie
 
 abbrev Inv-loop : tie.InvT-loop
-Inv-loop letters out₀ i₀ out i = (i ≤ length letters) × (length out ≡ length out₀) × (out ≡ take i (legible letters) ++ drop i out₀) × Letters letters i
+Inv-loop letters out₀ codes i₀ out i = (i ≤ length letters) × (length out ≡ length out₀) × (out ≡ take i (legible letters) ++ drop i out₀) × Letters letters i
 
 abbrev μ-loop : tie.MeasureT-loop
-μ-loop letters out₀ i₀ out i = length letters - i
+μ-loop letters out₀ codes i₀ out i = length letters - i
 
 pub decode-spec : {M : Type 1} → statement M
 decode-spec =
@@ -22,40 +22,40 @@ decode-spec =
     (tie.spec
     Inv-loop
     μ-loop
-    (λ c. (omega arith, refl, refl, none-read (c .before .before .args .letters .now)))
+    (λ c. (omega arith, refl, refl, none-read (c .args .letters .now)))
     (λ c. omega arith)
-    (λ c κs. tt)
-    (λ c. omega arith)
-    (λ c. omega arith)
-    (λ c.
-    let l = c .before .before .before .before .loop in
-    let a = c .before .before .before .before .before .before .before .args in
-    let cs = a .letters .now in
-    let h : l .i < length cs = omega arith in
-    let f = code-foreign (getD cs (l .i) 0) (c .before .code-of .result) (c .before .code-of .ensures) (omega arith) in (
-      verdict-foreign cs (l .i) (l .inv .3) h f,
-      l .inv .2 ∙ write-all (legible cs) (a .out .now) (l .i) (length-foreign cs (l .i) (l .inv .3) h f),
-    ))
+    (λ c. record { fits = omega (arith, c .shared-slice-known .given (c .before .before .loop .i)) })
+    (λ c. omega (arith, c .shared-slice-known .given (c .before .before .loop .i)))
     (λ c. omega arith)
     (λ c. omega arith)
     (λ c.
-    let l = c .before .before .before .before .loop in
-    let a = c .before .before .before .before .before .before .before .args in
+    let l = c .before .before .before .loop in
+    let a = c .before .before .before .before .args in
     let cs = a .letters .now in
-    let s = c .before .code-of .result in
     let h : l .i < length cs = omega arith in
-    let e = code-symbol (getD cs (l .i) 0) s (c .before .code-of .ensures) (c .if1 .left) in (
+    let x = getD cs (l .i) 0 in
+    let e = code-at x (omega (arith, c .before .shared-slice-known .given (l .i))) in
+    let f = code-foreign x _ e (omega arith) in
+    (verdict-foreign cs (l .i) (l .inv .3) h f, l .inv .2 ∙ write-all (legible cs) (a .out .now) (l .i) (length-foreign cs (l .i) (l .inv .3) h f)))
+    (λ c. omega arith)
+    (λ c. omega arith)
+    (λ c.
+    let l = c .before .before .before .loop in
+    let a = c .before .before .before .before .args in
+    let cs = a .letters .now in
+    let h : l .i < length cs = omega arith in
+    let x = getD cs (l .i) 0 in
+    let e = code-at x (omega (arith, c .before .shared-slice-known .given (l .i))) in
+    let f = code-symbol x _ e (c .if1 .left) in (
       omega arith,
       simp length-set (l .inv .1),
-      rw (l .inv .2) (write-next (legible cs) _ (a .out .now) (l .i) s (legible-next cs (l .i) (l .inv .3) h s e) (omega arith)),
-      one-more cs (l .i) (l .inv .3) h s e,
+      rw (l .inv .2) (write-next (legible cs) _ (a .out .now) (l .i) _ (legible-next cs (l .i) (l .inv .3) h _ f) (omega arith)),
+      one-more cs (l .i) (l .inv .3) h _ f,
     ))
     (λ c. omega arith)
     (λ c.
     let l = c .before .loop in
-    let a = c .before .before .before .before .args in
+    let a = c .before .before .args in
     let cs = a .letters .now in
-    let h : length cs ≤ l .i = omega arith in (
-      verdict-whole cs (l .i) (l .inv .3) h,
-      l .inv .2 ∙ write-all (legible cs) (a .out .now) (l .i) (length-whole cs (l .i) (l .inv .3) h),
-    )))
+    let h : length cs ≤ l .i = omega arith in
+    (verdict-whole cs (l .i) (l .inv .3) h, l .inv .2 ∙ write-all (legible cs) (a .out .now) (l .i) (length-whole cs (l .i) (l .inv .3) h))))

@@ -1,0 +1,263 @@
+//! Letters written and read a second: the library against the tuned rival.
+
+#[allow(dead_code)]
+mod ffi;
+#[allow(dead_code)]
+mod strands;
+#[allow(dead_code)]
+mod tuned;
+
+use std::hint::black_box;
+use std::process::exit;
+use std::time::Instant;
+use strands::{Damage, Rng};
+
+const SEED: u64 = 20;
+const STRANDS: usize = 64;
+const ROUNDS: usize = 400;
+/// Letters a side handles in one round.
+const ROUND_LETTERS: usize = 100_000;
+
+#[derive(Clone, Copy, PartialEq, Eq)]
+enum Side {
+    Library,
+    Tuned,
+}
+
+/// The lent buffers of one side.
+struct Room {
+    strand: [u8; 2048],
+    message: [u8; 128],
+    sheet: [u8; 16],
+}
+
+impl Room {
+    fn new() -> Room {
+        Room {
+            strand: [0; 2048],
+            message: [0; 128],
+            sheet: [0; 16],
+        }
+    }
+}
+
+#[inline(never)]
+fn write_one(side: Side, k: u32, b: u32, message: &[u8], room: &mut Room) -> usize {
+    let out = &mut room.strand;
+    match side {
+        Side::Library => {
+            let (out_ptr, out_len) = (out.as_mut_ptr(), out.len());
+            let (message_ptr, message_len) = (message.as_ptr(), message.len());
+            let got = unsafe { ffi::dnalm_write(k, b, message_ptr, message_len, out_ptr, out_len) };
+            got.letters
+        }
+        Side::Tuned => tuned::write(k, b, message, out).unwrap_or(0),
+    }
+}
+
+#[inline(never)]
+fn read_one(side: Side, k: u32, b: u32, letters: &[u8], room: &mut Room) -> [u32; 3] {
+    let (message, sheet) = (&mut room.message, &mut room.sheet);
+    match side {
+        Side::Library => {
+            let got = unsafe {
+                ffi::dnalm_read(
+                    k,
+                    b,
+                    letters.as_ptr(),
+                    letters.len(),
+                    message.as_mut_ptr(),
+                    message.len(),
+                    sheet.as_mut_ptr(),
+                    sheet.len(),
+                )
+            };
+            [got.clean, got.corrected, got.lost]
+        }
+        Side::Tuned => tuned::read(k, b, letters, message, sheet).unwrap_or([0; 3]),
+    }
+}
+
+#[derive(Clone, Copy, PartialEq, Eq)]
+enum Job {
+    Write,
+    Untouched,
+    OneEdit,
+    Damaged,
+}
+
+struct Set {
+    k: u32,
+    b: u32,
+    messages: Vec<Vec<u8>>,
+    strands: Vec<Vec<u8>>,
+}
+
+fn set(job: Job, k: u32, b: u32) -> Set {
+    let mut rng = Rng::new(SEED, (k * 1000 + b) as u64);
+    let mut messages = Vec::new();
+    let mut all = Vec::new();
+    for _ in 0..STRANDS {
+        let message = rng.bytes(b as usize);
+        let mut room = Room::new();
+        let letters = write_one(Side::Tuned, k, b, &message, &mut room);
+        let strand = &room.strand[..letters];
+        all.push(match job {
+            Job::Write | Job::Untouched => strand.to_vec(),
+            Job::OneEdit => strands::one_edit(&mut rng, k, b, strand),
+            Job::Damaged => {
+                let damages = [
+                    Damage::Crowded,
+                    Damage::Crowded,
+                    Damage::OneBad,
+                    Damage::Many,
+                    Damage::CutOut,
+                    Damage::PutIn,
+                    Damage::Repeated,
+                    Damage::OneBad,
+                ];
+                let damage = rng.of(&damages);
+                strands::damaged(&mut rng, damage, k, b, strand)
+            }
+        });
+        messages.push(message);
+    }
+    Set {
+        k,
+        b,
+        messages,
+        strands: all,
+    }
+}
+
+/// One pass over the set.
+fn pass(side: Side, job: Job, set: &Set, room: &mut Room) {
+    let (k, b) = (black_box(set.k), black_box(set.b));
+    if job == Job::Write {
+        for message in &set.messages {
+            black_box(write_one(side, k, b, black_box(message), room));
+        }
+    } else {
+        for strand in &set.strands {
+            black_box(read_one(side, k, b, black_box(strand), room));
+        }
+    }
+    black_box(room);
+}
+
+/// Both sides give the same answers on the set.
+fn agree(job: Job, set: &Set) {
+    let (mut one, mut other) = (Room::new(), Room::new());
+    for (message, strand) in set.messages.iter().zip(&set.strands) {
+        let same = if job == Job::Write {
+            write_one(Side::Library, set.k, set.b, message, &mut one)
+                == write_one(Side::Tuned, set.k, set.b, message, &mut other)
+        } else {
+            read_one(Side::Library, set.k, set.b, strand, &mut one)
+                == read_one(Side::Tuned, set.k, set.b, strand, &mut other)
+        };
+        if !same
+            || one.strand != other.strand
+            || one.message != other.message
+            || one.sheet != other.sheet
+        {
+            println!("disagreement: k {} B {}", set.k, set.b);
+            exit(1);
+        }
+    }
+}
+
+/// What was measured of both sides.
+struct Measured {
+    /// Letters a second in the best round, in millions.
+    best: [f64; 2],
+    /// The median of the ratios of neighbouring rounds.
+    ratio: f64,
+}
+
+fn measure(job: Job, set: &Set) -> Measured {
+    let letters: usize = set.strands.iter().map(Vec::len).sum();
+    let passes = ROUND_LETTERS / letters.max(1) + 1;
+    let mut room = Room::new();
+    let sides = [Side::Library, Side::Tuned];
+    let mut best = [0f64; 2];
+    let mut ratios = Vec::new();
+    for round in 0..ROUNDS {
+        let mut speeds = [0f64; 2];
+        for turn in 0..2 {
+            let which = (turn + round) % 2;
+            let start = Instant::now();
+            for _ in 0..passes {
+                pass(sides[which], job, set, &mut room);
+            }
+            let seconds = start.elapsed().as_secs_f64();
+            speeds[which] = (letters * passes) as f64 / seconds / 1e6;
+            best[which] = best[which].max(speeds[which]);
+        }
+        ratios.push(speeds[0] / speeds[1]);
+    }
+    ratios.sort_by(f64::total_cmp);
+    Measured {
+        best,
+        ratio: ratios[ROUNDS / 2],
+    }
+}
+
+fn table() {
+    println!("million letters a second, best of {ROUNDS} rounds; ratio library/tuned, median");
+    println!("{:<28} {:>9} {:>9} {:>7}", "", "library", "tuned", "ratio");
+    for (k, b) in [(16, 32), (64, 128), (8, 128), (2, 1)] {
+        for (name, job) in [
+            ("write", Job::Write),
+            ("read untouched", Job::Untouched),
+            ("read one-edit", Job::OneEdit),
+            ("read damaged", Job::Damaged),
+        ] {
+            let set = set(job, k, b);
+            agree(job, &set);
+            let measured = measure(job, &set);
+            let row = format!("k={k} B={b} {name}");
+            let ([library, rival], ratio) = (measured.best, measured.ratio);
+            println!("{row:<28} {library:>9.1} {rival:>9.1} {ratio:>7.2}");
+        }
+    }
+}
+
+/// N readings of a fixed set of strands with k=16, for counting instructions.
+fn work(side: &str, b: u32, count: usize) {
+    let k = 16;
+    let mut strands = Vec::new();
+    for job in [Job::Untouched, Job::OneEdit, Job::Damaged] {
+        strands.extend(set(job, k, b).strands.into_iter().take(8));
+    }
+    let mut room = Room::new();
+    let mut letters = 0;
+    for strand in strands.iter().cycle().take(count) {
+        letters += strand.len();
+        match side {
+            "library" => black_box(read_one(Side::Library, k, b, black_box(strand), &mut room)),
+            "tuned" => black_box(read_one(Side::Tuned, k, b, black_box(strand), &mut room)),
+            "none" => [0; 3],
+            _ => usage(),
+        };
+    }
+    println!("{side} k={k} B={b}: {count} readings, {letters} letters");
+}
+
+fn usage() -> ! {
+    eprintln!("usage: bench | bench work library|tuned|none B N");
+    exit(2);
+}
+
+fn main() {
+    let arguments: Vec<String> = std::env::args().skip(1).collect();
+    let arguments: Vec<&str> = arguments.iter().map(String::as_str).collect();
+    match arguments[..] {
+        [] => table(),
+        ["work", side, b, count] => match (b.parse(), count.parse()) {
+            (Ok(b @ (8 | 32 | 128)), Ok(count)) => work(side, b, count),
+            _ => usage(),
+        },
+        _ => usage(),
+    }
+}

@@ -1,0 +1,638 @@
+//! Reader and writer of DNA-LM strands, step by step as document 01 states them.
+
+/// A refusal by its number in the table; the place is given for 6 alone.
+#[derive(Clone, Copy, Debug, PartialEq, Eq)]
+pub struct Refused {
+    pub number: u32,
+    pub place: usize,
+}
+
+/// What was done to a segment on the way; places are those of the written segment.
+#[derive(Clone, Copy, Debug, PartialEq, Eq)]
+pub enum Edit {
+    None,
+    Sub { place: usize, symbol: u8 },
+    Del { place: usize, symbol: u8 },
+    Ins { place: usize, symbol: u8 },
+}
+
+/// The reader's verdict on one segment.
+#[derive(Clone, Copy, Debug, PartialEq, Eq)]
+pub enum Verdict {
+    Read(Edit),
+    Lost { step: u32 },
+    NoStart,
+}
+
+/// One segment as read: its piece of the strand, the verdict and its k symbols.
+#[derive(Clone, Debug, PartialEq, Eq)]
+pub struct Segment {
+    pub start: usize,
+    pub end: usize,
+    pub scanned: bool,
+    pub verdict: Verdict,
+    pub message: Vec<u8>,
+}
+
+/// The numbers that follow from k and B.
+#[derive(Clone, Copy, Debug)]
+pub struct Layout {
+    pub k: usize,
+    pub b: usize,
+    pub l: usize,
+    pub t: usize,
+}
+
+/// A tally of strands and of their segments.
+#[derive(Clone, Copy, Debug, PartialEq, Eq)]
+pub struct Tally {
+    pub strands: u32,
+    pub clean: u32,
+    pub corrected: u32,
+    pub lost: u32,
+}
+
+fn refuse<T>(number: u32) -> Result<T, Refused> {
+    Err(Refused { number, place: 0 })
+}
+
+/// Tests 1, 2 and 3; the message's length is tested where there is one.
+pub fn layout(k: u32, b: u32, message: Option<usize>) -> Result<Layout, Refused> {
+    if !(2..=64).contains(&k) {
+        return refuse(1);
+    }
+    if !(1..=128).contains(&b) {
+        return refuse(2);
+    }
+    if message.is_some_and(|length| length != b as usize) {
+        return refuse(2);
+    }
+    let (k, b) = (k as usize, b as usize);
+    if 4 * b % k != 0 || 4 * b / k > 64 {
+        return refuse(3);
+    }
+    let l = 4 * b / k;
+    let t = bits_to_write(2 * k - 1);
+    Ok(Layout { k, b, l, t })
+}
+
+fn bits_to_write(number: usize) -> usize {
+    let mut bits = 0;
+    while number >> bits != 0 {
+        bits += 1;
+    }
+    bits
+}
+
+impl Layout {
+    /// Length n of a segment; the first has no marker.
+    pub fn n(&self, first: bool) -> usize {
+        self.k + self.t + if first { 4 } else { 6 }
+    }
+
+    pub fn strand_length(&self) -> usize {
+        self.l * (self.k + self.t + 6) - 2
+    }
+
+    pub fn sheet_length(&self) -> usize {
+        self.l.div_ceil(4)
+    }
+}
+
+pub fn letter_of(symbol: u8) -> u8 {
+    b"ATCG"[symbol as usize]
+}
+
+fn symbol_of(letter: u8) -> Option<u8> {
+    b"ATCG".iter().position(|&x| x == letter).map(|x| x as u8)
+}
+
+/// Four symbols of each byte, highest two bits first.
+fn symbols_of_bytes(bytes: &[u8]) -> Vec<u8> {
+    let mut symbols = Vec::new();
+    for byte in bytes {
+        for shift in [6, 4, 2, 0] {
+            symbols.push(byte >> shift & 3);
+        }
+    }
+    symbols
+}
+
+fn bytes_of_symbols(symbols: &[u8]) -> Vec<u8> {
+    let pack = |four: &[u8]| four[0] << 6 | four[1] << 4 | four[2] << 2 | four[3];
+    symbols.chunks(4).map(pack).collect()
+}
+
+pub fn sep(a: u8, b: u8, c: u8) -> u8 {
+    for more in [2, 3] {
+        let s = (a + more) % 4;
+        if s != b && s != c {
+            return s;
+        }
+    }
+    (a + 1) % 4
+}
+
+fn high_layer(symbols: &[u8]) -> Vec<u8> {
+    symbols.iter().map(|x| x >> 1).collect()
+}
+
+fn low_layer(symbols: &[u8]) -> Vec<u8> {
+    symbols.iter().map(|x| x & 1).collect()
+}
+
+/// Sum of the places, from 1, that hold a one, modulo 2k; the word has k bits.
+fn layer_syndrome(word: &[u8]) -> usize {
+    let mut sum = 0;
+    for (i, &bit) in word.iter().enumerate() {
+        if bit == 1 {
+            sum += i + 1;
+        }
+    }
+    sum % (2 * word.len())
+}
+
+/// The t syndrome symbols of a message, most significant first.
+fn syndrome(message: &[u8], t: usize) -> Vec<u8> {
+    let high = layer_syndrome(&high_layer(message));
+    let low = layer_syndrome(&low_layer(message));
+    let pair = |bit: usize| (2 * (high >> bit & 1) + (low >> bit & 1)) as u8;
+    (0..t).rev().map(pair).collect()
+}
+
+/// The check symbol.
+fn check(message: &[u8]) -> u8 {
+    (message.iter().map(|&x| x as usize).sum::<usize>() % 4) as u8
+}
+
+/// A segment as written; f is the symbol before it, none for the first segment.
+fn written(message: &[u8], f: Option<u8>, t: usize) -> Vec<u8> {
+    let mut segment = Vec::new();
+    if let Some(f) = f {
+        let m = sep(f, message[0], message[1]);
+        segment.extend([m, m]);
+    }
+    segment.extend(message);
+    let c = check(message);
+    let a = syndrome(message, t);
+    let s = sep(c, a[0], a[1]);
+    segment.extend([c, s, s, s]);
+    segment.extend(a);
+    segment
+}
+
+/// Writes the strand of a message; hands back its number of letters.
+pub fn write(k: u32, b: u32, message: &[u8], out: &mut [u8]) -> Result<usize, Refused> {
+    let lay = layout(k, b, Some(message.len()))?;
+    if out.len() < lay.strand_length() {
+        return refuse(5);
+    }
+    let mut strand: Vec<u8> = Vec::new();
+    for part in symbols_of_bytes(message).chunks(lay.k) {
+        let f = strand.last().copied();
+        strand.extend(written(part, f, lay.t));
+    }
+    assert_eq!(strand.len(), lay.strand_length());
+    for (place, &symbol) in strand.iter().enumerate() {
+        out[place] = letter_of(symbol);
+    }
+    Ok(strand.len())
+}
+
+/// A received strand in symbols; places past its end match nothing.
+struct Strand {
+    symbols: Vec<u8>,
+}
+
+impl Strand {
+    fn len(&self) -> usize {
+        self.symbols.len()
+    }
+
+    fn same(&self, p: usize, q: usize) -> bool {
+        match (self.symbols.get(p), self.symbols.get(q)) {
+            (Some(x), Some(y)) => x == y,
+            _ => false,
+        }
+    }
+
+    /// The symbols from a place on, if all of them are in the strand.
+    fn take(&self, p: usize, count: usize) -> Option<&[u8]> {
+        self.symbols.get(p..p + count)
+    }
+
+    fn stands(&self, p: usize, wanted: &[u8]) -> bool {
+        self.take(p, wanted.len()) == Some(wanted)
+    }
+
+    /// Whether a clean segment with a marker starts at p.
+    fn clean_at(&self, lay: &Layout, p: usize, f: u8) -> bool {
+        match self.take(p + 2, lay.k) {
+            Some(message) => self.stands(p, &written(message, Some(f), lay.t)),
+            None => false,
+        }
+    }
+}
+
+/// The edit that links the bits of a layer to its word.
+#[derive(Clone, Copy)]
+enum Named {
+    Changed,
+    More,
+    Less,
+}
+
+/// Step 7 for one layer: the one word of k bits with the written syndrome.
+fn repaired_layer(bits: &[u8], named: Named, syndrome: usize) -> Option<Vec<u8>> {
+    let mut words: Vec<Vec<u8>> = Vec::new();
+    match named {
+        Named::Changed => {
+            words.push(bits.to_vec());
+            for i in 0..bits.len() {
+                let mut word = bits.to_vec();
+                word[i] = 1 - word[i];
+                words.push(word);
+            }
+        }
+        Named::More => {
+            for i in 0..bits.len() {
+                let mut word = bits.to_vec();
+                word.remove(i);
+                words.push(word);
+            }
+        }
+        Named::Less => {
+            for i in 0..=bits.len() {
+                for bit in [0, 1] {
+                    let mut word = bits.to_vec();
+                    word.insert(i, bit);
+                    words.push(word);
+                }
+            }
+        }
+    }
+    words.retain(|word| layer_syndrome(word) == syndrome);
+    words.sort();
+    words.dedup();
+    assert!(words.len() <= 1, "two words fit");
+    words.pop()
+}
+
+/// Step 7: both layers, apart, with the syndrome written at q.
+fn repaired(lay: &Layout, strand: &Strand, bits: &[u8], named: Named, q: usize) -> Option<Vec<u8>> {
+    let a = strand.take(q, lay.t)?;
+    let value = |layer: Vec<u8>| layer.iter().fold(0, |v, &bit| 2 * v + bit as usize);
+    let high = repaired_layer(&high_layer(bits), named, value(high_layer(a)))?;
+    let low = repaired_layer(&low_layer(bits), named, value(low_layer(a)))?;
+    Some(high.iter().zip(&low).map(|(h, l)| 2 * h + l).collect())
+}
+
+/// Step 2: the place of the separator with its j.
+fn separator(lay: &Layout, strand: &Strand, d: usize) -> Option<(usize, i32)> {
+    for j in [0, -1, 1] {
+        let q = (d + lay.k + 1).checked_add_signed(j as isize).unwrap();
+        if strand.same(q, q + 1) && strand.same(q + 1, q + 2) {
+            return Some((q, j));
+        }
+    }
+    None
+}
+
+/// Steps 1 to 7: the message of the segment at p and the place of its separator.
+fn message_at(
+    lay: &Layout,
+    strand: &Strand,
+    p: usize,
+    first: bool,
+) -> Result<(Vec<u8>, Option<usize>), u32> {
+    let (k, t) = (lay.k, lay.t);
+    // Step 1.
+    let whole = first || strand.same(p, p + 1);
+    let d = if first { p } else { p + 2 };
+    // Step 2.
+    let found = separator(lay, strand, d);
+    // Step 3.
+    if !whole {
+        let Some((q, _)) = found else {
+            return Err(3);
+        };
+        let message = strand.take(q - 1 - k, k).unwrap();
+        return Ok((message.to_vec(), Some(q)));
+    }
+    // Step 6.
+    let Some((q, j)) = found else {
+        let Some(message) = strand.take(d, k) else {
+            return Err(6);
+        };
+        if !strand.stands(d + k, &[check(message)]) {
+            return Err(6);
+        }
+        return Ok((message.to_vec(), None));
+    };
+    let message = strand.take(d, k).unwrap();
+    let syndrome_agrees = strand.stands(q + 3, &syndrome(message, t));
+    let (agrees, count, named) = match j {
+        // Step 4.
+        0 => {
+            let check_agrees = strand.stands(d + k, &[check(message)]);
+            (check_agrees || syndrome_agrees, k, Named::Changed)
+        }
+        // Step 5.
+        1 => (syndrome_agrees, k + 1, Named::More),
+        _ => (syndrome_agrees, k - 1, Named::Less),
+    };
+    if agrees {
+        return Ok((message.to_vec(), Some(q)));
+    }
+    let bits = strand.take(d, count).unwrap();
+    match repaired(lay, strand, bits, named, q + 3) {
+        Some(message) => Ok((message, Some(q))),
+        None => Err(7),
+    }
+}
+
+/// Step 8: where the segment at p ends.
+fn end_of(
+    lay: &Layout,
+    strand: &Strand,
+    p: usize,
+    first: bool,
+    message: &[u8],
+    separator: Option<usize>,
+) -> Option<usize> {
+    let a = syndrome(message, lay.t);
+    if let Some(q) = separator {
+        if strand.stands(q + 3, &a) {
+            return Some(q + 3 + lay.t);
+        }
+    }
+    let f = a[lay.t - 1];
+    for e in [0, -1, 1] {
+        let end = (p + lay.n(first)).checked_add_signed(e).unwrap();
+        if strand.clean_at(lay, end, f) {
+            return Some(end);
+        }
+    }
+    None
+}
+
+/// Step 9: the edit that leads from the written segment to the piece.
+fn edit_between(written: &[u8], piece: &[u8]) -> Option<Edit> {
+    if written == piece {
+        return Some(Edit::None);
+    }
+    let n = written.len();
+    if piece.len() == n {
+        for place in 0..n {
+            let mut edited = written.to_vec();
+            edited[place] = piece[place];
+            if edited == piece {
+                let symbol = piece[place];
+                return Some(Edit::Sub { place, symbol });
+            }
+        }
+    }
+    if piece.len() + 1 == n {
+        for place in 0..n {
+            let mut edited = written.to_vec();
+            let symbol = edited.remove(place);
+            if edited == piece {
+                return Some(Edit::Del { place, symbol });
+            }
+        }
+    }
+    if piece.len() == n + 1 {
+        for place in 0..=n {
+            let mut edited = written.to_vec();
+            let symbol = piece[place];
+            edited.insert(place, symbol);
+            if edited == piece {
+                return Some(Edit::Ins { place, symbol });
+            }
+        }
+    }
+    None
+}
+
+/// Steps 1 to 9 for the segment at p, or the step that loses it.
+fn segment_at(
+    lay: &Layout,
+    strand: &Strand,
+    p: usize,
+    f: Option<u8>,
+    last: bool,
+) -> Result<(Vec<u8>, usize, Edit), u32> {
+    let first = f.is_none();
+    let (message, separator) = message_at(lay, strand, p, first)?;
+    let end = if last {
+        strand.len()
+    } else {
+        end_of(lay, strand, p, first, &message, separator).ok_or(8u32)?
+    };
+    let piece = &strand.symbols[p..end];
+    let edit = edit_between(&written(&message, f, lay.t), piece).ok_or(9u32)?;
+    Ok((message, end, edit))
+}
+
+/// Step 10: the start of the next clean segment.
+fn scan(lay: &Layout, strand: &Strand, p: usize, first: bool) -> Option<usize> {
+    let mut moves = vec![0];
+    for d in 1..=8 {
+        moves.extend([-d, d]);
+    }
+    for d in moves {
+        let start = (p + lay.n(first)).checked_add_signed(d).unwrap();
+        if start <= p || start > strand.len() {
+            continue;
+        }
+        if strand.clean_at(lay, start, strand.symbols[start - 1]) {
+            return Some(start);
+        }
+    }
+    None
+}
+
+/// All l segments of a received strand.
+fn all_segments(lay: &Layout, strand: &Strand) -> Vec<Segment> {
+    let mut segments: Vec<Segment> = Vec::new();
+    let mut p = 0;
+    let mut f = None;
+    let mut scanned = false;
+    while segments.len() < lay.l {
+        let first = segments.is_empty();
+        let last = segments.len() + 1 == lay.l;
+        match segment_at(lay, strand, p, f, last) {
+            Ok((message, end, edit)) => {
+                f = syndrome(&message, lay.t).pop();
+                segments.push(Segment {
+                    start: p,
+                    end,
+                    scanned,
+                    verdict: Verdict::Read(edit),
+                    message,
+                });
+                p = end;
+                scanned = false;
+            }
+            Err(step) => {
+                let next = if last {
+                    None
+                } else {
+                    scan(lay, strand, p, first)
+                };
+                segments.push(Segment {
+                    start: p,
+                    end: next.unwrap_or(strand.len()),
+                    scanned,
+                    verdict: Verdict::Lost { step },
+                    message: vec![0; lay.k],
+                });
+                let Some(start) = next else {
+                    break;
+                };
+                p = start;
+                f = Some(strand.symbols[start - 1]);
+                scanned = true;
+            }
+        }
+    }
+    while segments.len() < lay.l {
+        segments.push(Segment {
+            start: strand.len(),
+            end: strand.len(),
+            scanned: false,
+            verdict: Verdict::NoStart,
+            message: vec![0; lay.k],
+        });
+    }
+    segments
+}
+
+/// Test 6.
+fn strand_of(letters: &[u8]) -> Result<Strand, Refused> {
+    let mut symbols = Vec::new();
+    for (place, &letter) in letters.iter().enumerate() {
+        match symbol_of(letter) {
+            Some(symbol) => symbols.push(symbol),
+            None => return Err(Refused { number: 6, place }),
+        }
+    }
+    Ok(Strand { symbols })
+}
+
+/// Test 4.
+fn not_overlong(letters: &[u8]) -> Result<(), Refused> {
+    if letters.len() > 2048 {
+        return refuse(4);
+    }
+    Ok(())
+}
+
+/// The segments of a strand with their verdicts.
+pub fn segments(k: u32, b: u32, letters: &[u8]) -> Result<Vec<Segment>, Refused> {
+    let lay = layout(k, b, None)?;
+    not_overlong(letters)?;
+    let strand = strand_of(letters)?;
+    Ok(all_segments(&lay, &strand))
+}
+
+/// The mark of a verdict in the sheet.
+pub fn mark(verdict: Verdict) -> u8 {
+    match verdict {
+        Verdict::Read(Edit::None) => 0,
+        Verdict::Read(_) => 1,
+        Verdict::Lost { .. } | Verdict::NoStart => 2,
+    }
+}
+
+/// Reads a strand; hands back the counts of clean, corrected and lost segments.
+pub fn read(
+    k: u32,
+    b: u32,
+    letters: &[u8],
+    message: &mut [u8],
+    sheet: &mut [u8],
+) -> Result<[u32; 3], Refused> {
+    let lay = layout(k, b, None)?;
+    not_overlong(letters)?;
+    if message.len() < lay.b || sheet.len() < lay.sheet_length() {
+        return refuse(5);
+    }
+    let strand = strand_of(letters)?;
+    let segments = all_segments(&lay, &strand);
+    let mut symbols = Vec::new();
+    let mut marks = Vec::new();
+    let mut counts = [0; 3];
+    for segment in &segments {
+        symbols.extend(&segment.message);
+        marks.push(mark(segment.verdict));
+        counts[mark(segment.verdict) as usize] += 1;
+    }
+    marks.resize(4 * lay.sheet_length(), 0);
+    message[..lay.b].copy_from_slice(&bytes_of_symbols(&symbols));
+    sheet[..lay.sheet_length()].copy_from_slice(&bytes_of_symbols(&marks));
+    Ok(counts)
+}
+
+/// The start and the length of one segment's piece; segments count from 1.
+pub fn piece(k: u32, b: u32, letters: &[u8], segment: u32) -> Result<(usize, usize), Refused> {
+    let segments = segments(k, b, letters)?;
+    if segment < 1 || segment as usize > segments.len() {
+        return refuse(9);
+    }
+    let found = &segments[segment as usize - 1];
+    Ok((found.start, found.end - found.start))
+}
+
+/// Writes the label of k and B.
+pub fn write_label(k: u32, b: u32, out: &mut [u8]) -> Result<(), Refused> {
+    layout(k, b, None)?;
+    if out.len() < 4 {
+        return refuse(5);
+    }
+    let label = 1 << 28 | k << 21 | b << 13;
+    out[..4].copy_from_slice(&label.to_be_bytes());
+    Ok(())
+}
+
+/// Reads k and B from a label.
+pub fn read_label(bytes: &[u8]) -> Result<(u32, u32), Refused> {
+    let Some(four) = bytes.first_chunk::<4>() else {
+        return refuse(5);
+    };
+    let label = u32::from_be_bytes(*four);
+    let edition = label >> 28;
+    let k = label >> 21 & 0x7F;
+    let b = label >> 13 & 0xFF;
+    let spare = label & 0x1FFF;
+    if edition != 1 || spare != 0 {
+        return refuse(8);
+    }
+    layout(k, b, None)?;
+    Ok((k, b))
+}
+
+/// Adds the counts of one strand; all four counts change or none.
+pub fn add_to_tally(
+    tally: &mut Tally,
+    clean: u32,
+    corrected: u32,
+    lost: u32,
+) -> Result<(), Refused> {
+    let strands = tally.strands.checked_add(1);
+    let clean = tally.clean.checked_add(clean);
+    let corrected = tally.corrected.checked_add(corrected);
+    let lost = tally.lost.checked_add(lost);
+    match (strands, clean, corrected, lost) {
+        (Some(strands), Some(clean), Some(corrected), Some(lost)) => {
+            *tally = Tally {
+                strands,
+                clean,
+                corrected,
+                lost,
+            };
+            Ok(())
+        }
+        _ => refuse(7),
+    }
+}

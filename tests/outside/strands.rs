@@ -1,0 +1,517 @@
+//! Random layouts, messages and strands, repeatable by their seed.
+
+/// SplitMix64.
+#[derive(Clone)]
+pub struct Rng {
+    state: u64,
+}
+
+impl Rng {
+    /// A sequence of its own for each seed and number.
+    pub fn new(seed: u64, number: u64) -> Rng {
+        let mut rng = Rng { state: seed };
+        let start = rng.next();
+        Rng {
+            state: start ^ number.wrapping_mul(0xD6E8_FEB8_6659_FD93),
+        }
+    }
+
+    pub fn next(&mut self) -> u64 {
+        self.state = self.state.wrapping_add(0x9E37_79B9_7F4A_7C15);
+        let mut z = self.state;
+        z = (z ^ z >> 30).wrapping_mul(0xBF58_476D_1CE4_E5B9);
+        z = (z ^ z >> 27).wrapping_mul(0x94D0_49BB_1331_11EB);
+        z ^ z >> 31
+    }
+
+    /// A number from 0 up to, but not with, the bound.
+    pub fn below(&mut self, bound: usize) -> usize {
+        (self.next() % bound as u64) as usize
+    }
+
+    /// True once in so many times.
+    pub fn once_in(&mut self, times: usize) -> bool {
+        self.below(times) == 0
+    }
+
+    pub fn of<T: Copy>(&mut self, all: &[T]) -> T {
+        all[self.below(all.len())]
+    }
+
+    pub fn letter(&mut self) -> u8 {
+        self.of(b"ATCG")
+    }
+
+    pub fn letters(&mut self, count: usize) -> Vec<u8> {
+        (0..count).map(|_| self.letter()).collect()
+    }
+
+    pub fn bytes(&mut self, count: usize) -> Vec<u8> {
+        (0..count).map(|_| self.next() as u8).collect()
+    }
+}
+
+/// All pairs of k and B that are taken.
+pub fn pairs() -> Vec<(u32, u32)> {
+    let mut pairs = Vec::new();
+    for k in 2..=64 {
+        for b in 1..=128 {
+            if 4 * b % k == 0 && 4 * b / k <= 64 {
+                pairs.push((k, b));
+            }
+        }
+    }
+    pairs
+}
+
+/// Layouts at the ends of the limits.
+const EXTREME: [(u32, u32); 16] = [
+    (2, 1),
+    (2, 32),
+    (3, 3),
+    (3, 48),
+    (4, 1),
+    (4, 64),
+    (5, 5),
+    (8, 2),
+    (8, 128),
+    (9, 126),
+    (16, 32),
+    (32, 8),
+    (32, 128),
+    (63, 63),
+    (64, 16),
+    (64, 128),
+];
+
+/// A taken pair, with weight on small and on extreme ones.
+pub fn layout(rng: &mut Rng, pairs: &[(u32, u32)]) -> (u32, u32) {
+    match rng.below(8) {
+        0..=2 => loop {
+            let (k, b) = rng.of(pairs);
+            if k <= 10 && b <= 10 {
+                return (k, b);
+            }
+        },
+        3..=4 => rng.of(&EXTREME),
+        5 => rng.of(&[(2, 1), (2, 2), (2, 3), (3, 3), (4, 2), (4, 3), (6, 3)]),
+        _ => rng.of(pairs),
+    }
+}
+
+/// The number of bits of 2k-1.
+pub fn syndrome_length(k: u32) -> usize {
+    (u32::BITS - (2 * k - 1).leading_zeros()) as usize
+}
+
+/// The lengths of the written segments.
+pub fn segment_lengths(k: u32, b: u32) -> Vec<usize> {
+    let n = k as usize + syndrome_length(k) + 6;
+    let l = (4 * b / k) as usize;
+    (0..l).map(|i| if i == 0 { n - 2 } else { n }).collect()
+}
+
+/// The written strand cut into its segments.
+pub fn cut(k: u32, b: u32, strand: &[u8]) -> Vec<Vec<u8>> {
+    let mut rest = strand;
+    let mut segments = Vec::new();
+    for n in segment_lengths(k, b) {
+        let (segment, more) = rest.split_at(n);
+        segments.push(segment.to_vec());
+        rest = more;
+    }
+    segments
+}
+
+/// A message of B bytes; now and then of few ones or few zeros.
+pub fn message(rng: &mut Rng, b: u32) -> Vec<u8> {
+    let mut bytes = rng.bytes(b as usize);
+    match rng.below(10) {
+        0 => bytes.fill(0),
+        1 => bytes.fill(0xFF),
+        2 => {
+            let byte = rng.of(&[0x55, 0xAA, 0x1B, 0xE4]);
+            bytes.fill(byte);
+        }
+        3 => {
+            let fill = rng.of(&[0, 0xFF]);
+            bytes.fill(fill);
+            for _ in 0..=rng.below(3) {
+                let place = rng.below(bytes.len());
+                bytes[place] ^= 1 << rng.below(8);
+            }
+        }
+        _ => {}
+    }
+    bytes
+}
+
+/// One edit of a segment.
+#[derive(Clone, Copy, Debug)]
+pub enum Change {
+    Replace(usize, u8),
+    LeaveOut(usize),
+    PutIn(usize, u8),
+}
+
+impl Change {
+    pub fn done(self, segment: &[u8]) -> Vec<u8> {
+        let mut stretch = segment.to_vec();
+        match self {
+            Change::Replace(place, letter) => stretch[place] = letter,
+            Change::LeaveOut(place) => {
+                stretch.remove(place);
+            }
+            Change::PutIn(place, letter) => stretch.insert(place, letter),
+        }
+        stretch
+    }
+
+    /// Whether a segment of n letters is hit in its last t+3.
+    pub fn hits_tail(self, n: usize, t: usize) -> bool {
+        match self {
+            Change::Replace(place, _) | Change::LeaveOut(place) | Change::PutIn(place, _) => {
+                place >= n - t - 3
+            }
+        }
+    }
+}
+
+/// Every edit of a segment.
+pub fn changes(segment: &[u8]) -> Vec<Change> {
+    let mut all = Vec::new();
+    for (place, &written) in segment.iter().enumerate() {
+        all.push(Change::LeaveOut(place));
+        for &letter in b"ATCG" {
+            if letter != written {
+                all.push(Change::Replace(place, letter));
+            }
+        }
+    }
+    for place in 0..=segment.len() {
+        for &letter in b"ATCG" {
+            all.push(Change::PutIn(place, letter));
+        }
+    }
+    all
+}
+
+/// A random edit of a segment, often at its ends.
+pub fn change(rng: &mut Rng, segment: &[u8]) -> Change {
+    let n = segment.len();
+    let kind = rng.below(3);
+    let places = if kind == 2 { n + 1 } else { n };
+    let place = match rng.below(4) {
+        0 => rng.below(places.min(5)),
+        1 => places - 1 - rng.below(places.min(14)),
+        _ => rng.below(places),
+    };
+    let letter = rng.letter();
+    match kind {
+        0 => Change::LeaveOut(place),
+        1 if letter != segment[place] => Change::Replace(place, letter),
+        1 => Change::LeaveOut(place),
+        _ => Change::PutIn(place, letter),
+    }
+}
+
+/// At most one edit in each segment, by the one-edit conditions.
+pub fn one_edit(rng: &mut Rng, k: u32, b: u32, strand: &[u8]) -> Vec<u8> {
+    let t = syndrome_length(k);
+    let rare = rng.of(&[1, 1, 2, 8]);
+    let mut received = Vec::new();
+    let mut spare_next = false;
+    for segment in cut(k, b, strand) {
+        if spare_next || !rng.once_in(rare) {
+            received.extend(&segment);
+            spare_next = false;
+            continue;
+        }
+        let change = change(rng, &segment);
+        spare_next = change.hits_tail(segment.len(), t);
+        received.extend(change.done(&segment));
+    }
+    received
+}
+
+/// Ways to damage a strand beyond the one-edit conditions.
+#[derive(Clone, Copy, Debug, PartialEq, Eq)]
+pub enum Damage {
+    /// Up to two edits in each segment, anywhere.
+    Crowded,
+    /// Edits all over the strand.
+    Many,
+    /// Stretches cut out.
+    CutOut,
+    /// Stretches put in.
+    PutIn,
+    /// Segments repeated, left out or exchanged.
+    Repeated,
+    /// Letters alone.
+    Random,
+    /// Letters in short runs.
+    Runs,
+    /// The front or the back alone.
+    Truncated,
+    /// No letters.
+    Empty,
+    /// Up to 2,048 letters.
+    Long,
+    /// One segment badly hit, the others whole.
+    OneBad,
+    /// Whole segments, their markers made to fit, among other letters.
+    Islands,
+}
+
+pub const DAMAGES: [Damage; 12] = [
+    Damage::Crowded,
+    Damage::Many,
+    Damage::CutOut,
+    Damage::PutIn,
+    Damage::Repeated,
+    Damage::Random,
+    Damage::Runs,
+    Damage::Truncated,
+    Damage::Empty,
+    Damage::Long,
+    Damage::OneBad,
+    Damage::Islands,
+];
+
+/// The marker letter after a letter and before a message.
+fn marker(before: u8, first: u8, second: u8) -> u8 {
+    let mut choices = b"ATCG".iter().cycle().skip_while(|&&x| x != before);
+    let [_, next, second_next, third_next] = [0; 4].map(|_| *choices.next().unwrap_or(&b'A'));
+    let fits = |x: u8| x != first && x != second;
+    match (fits(second_next), fits(third_next)) {
+        (true, _) => second_next,
+        (_, true) => third_next,
+        _ => next,
+    }
+}
+
+fn edited(rng: &mut Rng, part: &[u8], edits: usize) -> Vec<u8> {
+    let mut part = part.to_vec();
+    for _ in 0..edits {
+        if part.is_empty() {
+            break;
+        }
+        part = change(rng, &part).done(&part);
+    }
+    part
+}
+
+fn runs(rng: &mut Rng, count: usize) -> Vec<u8> {
+    let mut letters = Vec::new();
+    while letters.len() < count {
+        let letter = rng.letter();
+        let times = 1 + rng.below(4);
+        letters.extend(std::iter::repeat_n(letter, times));
+    }
+    letters.truncate(count);
+    letters
+}
+
+/// A badly damaged strand of at most 2,048 letters.
+pub fn damaged(rng: &mut Rng, damage: Damage, k: u32, b: u32, strand: &[u8]) -> Vec<u8> {
+    let mut received = strand.to_vec();
+    let segments = cut(k, b, strand);
+    match damage {
+        Damage::Crowded => {
+            received.clear();
+            for segment in &segments {
+                let edits = rng.of(&[0, 1, 1, 2]);
+                received.extend(edited(rng, segment, edits));
+            }
+        }
+        Damage::Many => {
+            let edits = 1 + rng.below(1 + strand.len() / 4);
+            received = edited(rng, strand, edits);
+        }
+        Damage::CutOut => {
+            for _ in 0..=rng.below(3) {
+                let from = rng.below(received.len() + 1);
+                let most = (received.len() - from).min(rng.of(&[3, 9, 20, 2048]));
+                let count = rng.below(most + 1);
+                received.drain(from..from + count);
+            }
+        }
+        Damage::PutIn => {
+            for _ in 0..=rng.below(3) {
+                let at = rng.below(received.len() + 1);
+                let most = rng.of(&[3, 9, 20, 90]);
+                let count = 1 + rng.below(most);
+                let more = rng.letters(count);
+                received.splice(at..at, more);
+            }
+        }
+        Damage::Repeated => {
+            received.clear();
+            for i in 0..segments.len() {
+                match rng.below(5) {
+                    0 => {}
+                    1 => received.extend(segments[i].iter().chain(&segments[i])),
+                    2 => received.extend(&segments[rng.below(segments.len())]),
+                    _ => received.extend(&segments[i]),
+                }
+            }
+        }
+        Damage::Random => {
+            let most = rng.of(&[30, 400, 2048]);
+            let count = rng.below(most + 1);
+            received = rng.letters(count);
+        }
+        Damage::Runs => {
+            let count = rng.below(2 * strand.len());
+            received = runs(rng, count);
+        }
+        Damage::Truncated => {
+            let at = rng.below(strand.len() + 1);
+            if rng.once_in(4) {
+                received.drain(..at);
+            } else {
+                received.truncate(at);
+            }
+            if rng.once_in(3) {
+                received = edited(rng, &received, 1);
+            }
+        }
+        Damage::Empty => received.clear(),
+        Damage::Long => {
+            let count = 2048 - rng.of(&[0, 0, 1, 2, 50]);
+            if rng.once_in(2) {
+                received = strand.iter().copied().cycle().take(count).collect();
+            } else {
+                let more = rng.letters(count);
+                received.extend(more);
+                received.truncate(count);
+            }
+        }
+        Damage::OneBad => {
+            received.clear();
+            let bad = rng.below(segments.len());
+            for (i, segment) in segments.iter().enumerate() {
+                if i == bad {
+                    let moved = rng.below(19) as isize - 9;
+                    let count = (segment.len() as isize + moved).max(0) as usize;
+                    received.extend(rng.letters(count));
+                } else {
+                    received.extend(segment);
+                }
+            }
+        }
+        Damage::Islands => {
+            received.clear();
+            if rng.once_in(2) {
+                received.extend(&segments[0]);
+            }
+            let most = rng.of(&[2, 9, 20, segments[0].len() + 10]);
+            for segment in segments.iter().skip(1) {
+                let count = rng.below(most);
+                let between = rng.letters(count);
+                received.extend(between);
+                let mut island = segment.clone();
+                if let Some(&before) = received.last() {
+                    island[..2].fill(marker(before, segment[2], segment[3]));
+                }
+                received.extend(island);
+            }
+        }
+    }
+    received.truncate(2048);
+    received
+}
+
+/// A strand of 2,049 letters or more.
+pub fn overlong(rng: &mut Rng) -> Vec<u8> {
+    let count = 2049 + rng.of(&[0, 0, 1, 63, 2048]);
+    rng.letters(count)
+}
+
+/// A byte that is no letter of a strand; often one close to them.
+pub fn foreign_byte(rng: &mut Rng) -> u8 {
+    loop {
+        let byte = if rng.once_in(2) {
+            rng.of(b"atcgBDEFHSUVN \n\r\0\xC1\xD4\xC3\xC7@")
+        } else {
+            rng.next() as u8
+        };
+        if !b"ATCG".contains(&byte) {
+            return byte;
+        }
+    }
+}
+
+/// Puts foreign letters at random places of a strand that is not empty.
+pub fn foreign(rng: &mut Rng, strand: &mut [u8]) {
+    let last = strand.len() - 1;
+    for _ in 0..=rng.below(3) {
+        let random = rng.below(strand.len());
+        let place = rng.of(&[0, last, random, random, random]);
+        strand[place] = foreign_byte(rng);
+    }
+}
+
+/// A k outside its limits.
+pub fn bad_k(rng: &mut Rng) -> u32 {
+    rng.of(&[
+        0,
+        1,
+        65,
+        66,
+        128,
+        1 << 16,
+        1 << 31,
+        (1 << 31) + 2,
+        u32::MAX - 1,
+        u32::MAX,
+    ])
+}
+
+/// A B outside its limits.
+pub fn bad_b(rng: &mut Rng) -> u32 {
+    rng.of(&[
+        0,
+        129,
+        130,
+        256,
+        257,
+        1 << 16,
+        1 << 30,
+        (1 << 30) + 1,
+        u32::MAX - 1,
+        u32::MAX,
+    ])
+}
+
+/// A pair within the limits that is not a taken cut.
+pub fn bad_cut(rng: &mut Rng) -> (u32, u32) {
+    loop {
+        let k = if rng.once_in(3) {
+            2 + rng.below(7) as u32
+        } else {
+            2 + rng.below(63) as u32
+        };
+        let b = 1 + rng.below(128) as u32;
+        if !(4 * b).is_multiple_of(k) || 4 * b / k > 64 {
+            return (k, b);
+        }
+    }
+}
+
+/// A count for a tally, often close to the limit.
+pub fn count(rng: &mut Rng) -> u32 {
+    let random = rng.next() as u32;
+    rng.of(&[
+        0,
+        1,
+        2,
+        64,
+        1 << 31,
+        u32::MAX - 64,
+        u32::MAX - 1,
+        u32::MAX,
+        random,
+        random >> 8,
+    ])
+}
