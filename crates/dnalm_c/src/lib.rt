@@ -1,6 +1,6 @@
 // The public calls under C names: numbers, structs of numbers and slices alone cross the border. No call asks anything of its caller.
-// In each answer refusal is 0 where the call is taken and else the refusal's number, with zeros for the other numbers;
-// place is the first foreign letter's, from 0, where refusal is 6.
+// In an answer `refusal` is 0 where the call is taken and else the refusal's number; `place` is the first foreign letter's, from 0,
+// where `refusal` is 6, and else 0. The other numbers of a refused call are 0; those of a tally are the old ones.
 ghost use mathlib.Core.Path.{_≡_};
 ghost use mathlib.Core.Bool.{false};
 ghost use Prim.Native.Nat.{_-_};
@@ -114,9 +114,9 @@ pub extern "C" fn dnalm_read(
         Counted::Counts(clean, corrected, lost) => Counts {
             refusal: 0,
             place: 0,
-            clean: clean,
-            corrected: corrected,
-            lost: lost,
+            clean,
+            corrected,
+            lost,
         },
         Counted::Refused(r) => Counts {
             refusal: dnalm::refusal_number(r) as u32,
@@ -205,10 +205,10 @@ pub extern "C" fn dnalm_add_to_tally(t: Tally, clean: u32, corrected: u32, lost:
         },
         code::Tallied::Refused(r) => Tallied {
             refusal: dnalm::refusal_number(r) as u32,
-            strands: t.strands,
-            clean: t.clean,
-            corrected: t.corrected,
-            lost: t.lost,
+            strands: old.strands,
+            clean: old.clean,
+            corrected: old.corrected,
+            lost: old.lost,
         },
     }
 }
