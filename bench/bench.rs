@@ -1,8 +1,10 @@
 //! Letters written and read a second: the library against the tuned rival.
 
 #[allow(dead_code)]
+#[path = "../tests/outside/ffi.rs"]
 mod ffi;
 #[allow(dead_code)]
+#[path = "../tests/outside/strands.rs"]
 mod strands;
 #[allow(dead_code)]
 mod tuned;

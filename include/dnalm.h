@@ -1,0 +1,177 @@
+/*
+ * DNA-LM strands: writing, reading, the pieces of segments, labels and tallies.
+ *
+ * A message of B bytes is written in the letters A, T, C and G, as l = 4B / k segments of k symbols.
+ * A strand with at most one letter changed, lost or added in each segment is read back whole, if each
+ * segment that is hit in separator or syndrome is last or has an untouched one directly after it.
+ *
+ *     bash tools/library               proves the calls and writes target/lib/libdnalm.a (x86-64 Linux)
+ *     cc -std=c99 -I include program.c target/lib/libdnalm.a
+ *
+ * Every call answers for all numbers, lengths and contents. It allocates nothing and keeps nothing
+ * between calls, so several threads may call at once.
+ *
+ * A buffer is a pointer and a number of bytes, and the pointer has to be good for that many. Where the
+ * number is 0, nothing is read or written through the pointer, and it may be any, NULL included.
+ * A buffer that is written to overlaps no other of the same call; it need not hold anything before.
+ *
+ * In an answer refusal is 0 where the call is taken, and else the number of the refusal: of several the
+ * first in the order that is told for the call. place is 0, or, where refusal is 6, the place of the
+ * first foreign letter, from 0. The other numbers of a refused call are 0, but for a tally's.
+ * A refused call leaves all its buffers as they were.
+ */
+#ifndef DNALM_H
+#define DNALM_H
+
+#include <stddef.h>
+#include <stdint.h>
+
+#ifdef __cplusplus
+extern "C" {
+#endif
+
+/* The limits, and the sizes that are enough for every order within them. */
+enum {
+    DNALM_LEAST_LENGTH = 2,     /* k, the symbols of a segment's message */
+    DNALM_MOST_LENGTH = 64,
+    DNALM_MOST_BYTES = 128,     /* B, the bytes of a strand's message; at least 1 */
+    DNALM_MOST_SEGMENTS = 64,   /* l */
+    DNALM_MOST_LETTERS = 2048,  /* letters of a received strand */
+    DNALM_MOST_WRITTEN = 1150,  /* letters of a written strand */
+    DNALM_MOST_SHEET = 16,      /* bytes of a sheet */
+    DNALM_LABEL_BYTES = 4
+};
+
+/* The refusals by their numbers. */
+enum {
+    DNALM_TAKEN = 0,
+    DNALM_SEGMENT_LENGTH = 1,   /* k is not 2 to 64 */
+    DNALM_MESSAGE_SIZE = 2,     /* B is not 1 to 128, or the message to write has not B bytes */
+    DNALM_CUT = 3,              /* 4B is not a multiple of k, or makes more than 64 segments */
+    DNALM_OVERLONG = 4,         /* there are more than 2,048 letters */
+    DNALM_SHORT_BUFFER = 5,     /* a buffer or a label has too few bytes */
+    DNALM_FOREIGN_LETTER = 6,   /* a byte is none of A, T, C and G */
+    DNALM_TALLY_FULL = 7,       /* a count would pass 4,294,967,295 */
+    DNALM_LABEL = 8,            /* the edition is not 1, or a spare bit is set */
+    DNALM_NO_SUCH_SEGMENT = 9   /* the segment's number is not 1 to l */
+};
+
+/* The marks of a sheet. */
+enum {
+    DNALM_CLEAN = 0,
+    DNALM_CORRECTED = 1,
+    DNALM_LOST = 2
+};
+
+/* What a writing answers. */
+typedef struct dnalm_written {
+    uint32_t refusal;
+    size_t place;               /* always 0 */
+    size_t letters;             /* the letters of the strand */
+} dnalm_written;
+
+/* What a reading answers: how many segments have each mark, together l. */
+typedef struct dnalm_counts {
+    uint32_t refusal;
+    size_t place;
+    uint32_t clean;
+    uint32_t corrected;
+    uint32_t lost;
+} dnalm_counts;
+
+/* Where a segment's piece stands: length letters from letters[start] on. */
+typedef struct dnalm_piece_at {
+    uint32_t refusal;
+    size_t place;
+    size_t start;
+    size_t length;
+} dnalm_piece_at;
+
+/* What a label says. */
+typedef struct dnalm_order {
+    uint32_t refusal;
+    uint32_t k;
+    uint32_t b;
+} dnalm_order;
+
+/* How many strands were read, and their segments by mark. */
+typedef struct dnalm_tally {
+    uint32_t strands;
+    uint32_t clean;
+    uint32_t corrected;
+    uint32_t lost;
+} dnalm_tally;
+
+/* The counts of a tally after a reading is added; where it is refused, those before. */
+typedef struct dnalm_tallied {
+    uint32_t refusal;
+    uint32_t strands;
+    uint32_t clean;
+    uint32_t corrected;
+    uint32_t lost;
+} dnalm_tallied;
+
+/*
+ * Writes the strand of a message of B = b bytes, in segments of k symbols, to the front of out.
+ * It has l * (k + t + 6) - 2 letters, where t is the number of bits of 2k - 1.
+ *
+ * Refused, in this order: 1, 2, 3, 5 where out has fewer bytes than the strand has letters.
+ * The bytes of out behind the strand are untouched.
+ */
+dnalm_written dnalm_write(uint32_t k, uint32_t b,
+                          const uint8_t *message, size_t message_length,
+                          uint8_t *out, size_t out_length);
+
+/*
+ * Reads the letters that were received of a strand written for k and B = b.
+ * The B bytes of the message go to the front of message, with zeros for the symbols of a lost segment.
+ * The sheet goes to the front of sheet, (l + 3) / 4 bytes: two bits for each segment, the first segment
+ * in the highest bits of the first byte, 0 clean, 1 corrected, 2 lost; the bits that are left are 0.
+ *
+ * Refused, in this order: 1, 2, 3, 4, 5 where message has fewer than B bytes or sheet too few, 6.
+ * The bytes behind the message and behind the sheet are untouched.
+ */
+dnalm_counts dnalm_read(uint32_t k, uint32_t b,
+                        const uint8_t *letters, size_t letters_length,
+                        uint8_t *message, size_t message_length,
+                        uint8_t *sheet, size_t sheet_length);
+
+/*
+ * Answers which letters belong to a segment by that reading; the first segment is 1.
+ * The pieces follow each other and are all the letters. A lost segment's piece runs to the start of the
+ * next segment or to the end.
+ *
+ * Refused, in this order: 1, 2, 3, 4, 6, 9. It writes to nothing.
+ */
+dnalm_piece_at dnalm_piece(uint32_t k, uint32_t b,
+                           const uint8_t *letters, size_t letters_length,
+                           uint32_t segment);
+
+/*
+ * Writes the label of k and B = b to the front of out: four bytes, the most significant first, that hold
+ * edition 1 in 4 bits, k in 7, B in 8, and 13 zero bits. Answers 0 or the refusal.
+ *
+ * Refused, in this order: 1, 2, 3, 5 where out has fewer than four bytes.
+ * The bytes of out behind the label are untouched.
+ */
+uint32_t dnalm_write_label(uint32_t k, uint32_t b, uint8_t *out, size_t out_length);
+
+/*
+ * Reads a label. Bytes behind the first four are not read.
+ *
+ * Refused, in this order: 5 where there are fewer than four bytes, 8, 1, 2, 3. It writes to nothing.
+ */
+dnalm_order dnalm_read_label(const uint8_t *bytes, size_t bytes_length);
+
+/*
+ * Adds one strand and the three counts of its reading to a tally. All four counts change, or none.
+ *
+ * Refused: 7. It writes to nothing; the new counts are in the answer.
+ */
+dnalm_tallied dnalm_add_to_tally(dnalm_tally t, uint32_t clean, uint32_t corrected, uint32_t lost);
+
+#ifdef __cplusplus
+}
+#endif
+
+#endif
