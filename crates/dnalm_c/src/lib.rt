@@ -170,11 +170,7 @@ pub extern "C" fn dnalm_read_label(bytes: &[u8]) -> Order
 {
     let order = dnalm::read_label(bytes);
     match order {
-        code::Order::Is(k, b) => Order {
-            refusal: 0,
-            k,
-            b,
-        },
+        code::Order::Is(k, b) => Order { refusal: 0, k, b },
         code::Order::Refused(r) => Order {
             refusal: dnalm::refusal_number(r) as u32,
             k: 0,
