@@ -1,10 +1,20 @@
-// What both programs share: the label's line, and the line for a refusal.
+// What both programs share: the label's line, the line for a refusal, and what is said to a wrong use.
 use code::Order;
 use code::Refusal;
+use libc::STDERR_FILENO;
 use libc::STDOUT_FILENO;
 use text::Hex;
 ghost use mathlib.Core.Path.{_≡_};
 ghost use Rattle.desk.specs.LabelLine.{orderLine};
+
+// Whether the program was started with arguments, which it doesn't take; then `expected` goes to standard error.
+pub fn is_wrong_use(expected: &[u8]) -> bool {
+    if os::arg_count() < 2 {
+        return false;
+    }
+    io::write_all(STDERR_FILENO, expected);
+    true
+}
 
 // A word of the output.
 pub fn word(text: &[u8]) {

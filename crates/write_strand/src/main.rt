@@ -39,6 +39,11 @@ fn print_input(input: &[u8]) {
 
 // The buffer holds every pair of lines that is taken; a line that it does not hold whole is refused as too long.
 fn main() {
+    if desk::is_wrong_use(
+        b"write_strand takes no arguments. It reads two lines: a label in eight hexadecimal digits, and a message in hexadecimal digits.\n",
+    ) {
+        return;
+    }
     let mut input = io::buffer();
     let n = io::read_full(0, &mut input);
     print_input(&input[..n]);
