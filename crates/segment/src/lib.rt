@@ -63,11 +63,14 @@ fn paired(high: usize, low: usize, t: usize) -> [u8; 16]
     ensures { λ r. ⌜ (take t r ≡ pair (bits t high) (bits t low)) × (length r ≡ 16) ⌝ }
 {
     let mut symbols = [0u8; 16];
-    let mut i = 0;
-    while i < t {
-        let shift = t - 1 - i;
-        symbols[i] = (2 * ((high >> shift) & 1) + ((low >> shift) & 1)) as u8;
-        i += 1;
+    let mut h = high;
+    let mut l = low;
+    let mut i = t;
+    while 0 < i {
+        i -= 1;
+        symbols[i] = (2 * (h & 1) + (l & 1)) as u8;
+        h >>= 1;
+        l >>= 1;
     }
     symbols
 }
