@@ -4,7 +4,9 @@
 --   symbols-next   the symbols of one more byte
 --   pack-step      one more byte of symbols
 --   Letters        the first bytes of a strand are letters, with its step and its ends
+--   letters-turn, letters-end, letters-next    letters throughout, by one byte
 use mathlib.Core.Path.{_≡_, refl, ap, _∙_, sym}
+use mathlib.Core.Bool.{Bool, true, false, _&&_}
 use mathlib.Core.List.{List, [], _∷_, _++_}
 use Prim.Native.Nat.{ℕ, _+_, _*_, _%_, _<_, _≤_}
 use native.Mathlib.Numerals.{add-one}
@@ -17,6 +19,7 @@ use Rattle.code.specs.declared.Decoded.the-variants as D
 use Rattle.code.specs.Lists.{write-next, drop-four, drop-next, drop-inside}
 use Rattle.code.specs.Symbols.{symbolOf, legible, decodedFrom, decoded, symbolsOf, byteOf, symbols, bytes}
 use Rattle.code.specs.SymbolsLaws.{symbols-drop, bytes-drop}
+use Rattle.symbols.specs.Codes.{isLetter, allLetters}
 
 -- four symbols joined by shift and or
 pub or-byte : (a b c d : ℕ) → a < 4 → b < 4 → c < 4 → d < 4 → bitOr (bitOr (bitOr ((a * 64) % 256) ((b * 16) % 256)) ((c * 4) % 256)) d ≡ byteOf a b c d
@@ -93,3 +96,30 @@ module _ (cs : List ℕ) (i : ℕ) (l : Letters cs i) where
     pub length-whole : i ≡ length (legible cs)
     unfolding legible
     length-whole = all-read (rw (drop-of-length-le cs h))
+
+-- Letters throughout
+
+first-true : (a b : Bool) → (a && b) ≡ true → (a ≡ true) × (b ≡ true)
+first-true true b e = (refl, e)
+first-true false b e = let z : _≡_ {A = ℕ} 0 1 = cc in absurd (omega arith)
+
+and-assoc : (a b c : Bool) → ((a && b) && c) ≡ (a && (b && c))
+and-assoc true b c = refl
+and-assoc false b c = refl
+
+all-step : (cs : List ℕ) (i : ℕ) → i < length cs → allLetters (drop i cs) ≡ (isLetter (getD cs i 0) && allLetters (drop (i + 1) cs))
+unfolding allLetters
+all-step cs i h = rw (add-one, drop-cons cs i 0 h)
+
+-- one more byte is looked at
+pub letters-turn : (cs : List ℕ) (i : ℕ) (all : Bool) → i < length cs → ((all && isLetter (getD cs i 0)) && allLetters (drop (i + 1) cs)) ≡ (all && allLetters (drop i cs))
+letters-turn cs i all h = and-assoc all (isLetter (getD cs i 0)) (allLetters (drop (i + 1) cs)) ∙ ap (λ (b : Bool). all && b) (sym (all-step cs i h))
+
+pub letters-end : (cs : List ℕ) (i : ℕ) (all : Bool) → length cs ≤ i → (all && allLetters (drop i cs)) ≡ all
+unfolding allLetters
+letters-end cs i true h = rw (drop-of-length-le cs h)
+letters-end cs i false h = refl
+
+-- the next byte is a letter, and so are those behind it
+pub letters-next : (cs : List ℕ) (i : ℕ) → i < length cs → allLetters (drop i cs) ≡ true → (isLetter (getD cs i 0) ≡ true) × (allLetters (drop (i + 1) cs) ≡ true)
+letters-next cs i h e = first-true (isLetter (getD cs i 0)) (allLetters (drop (i + 1) cs)) (sym (all-step cs i h) ∙ e)

@@ -1,10 +1,12 @@
 // Letters to symbols, and bytes to symbols and back.
 ghost use mathlib.Core.Path.{_≡_};
+ghost use mathlib.Core.Bool.{true, _&&_};
 ghost use mathlib.Core.List.{_++_};
 ghost use Prim.Native.Nat.{_*_, _/_, _<_, _≤_};
 ghost use lib.ListN.{length, drop};
 ghost use Rattle.code.specs.Symbols.{Below, letterOf, symbolOf, legible, decoded, byteOf, symbols, bytes};
-ghost use Rattle.symbols.specs.Codes.{codeOf};
+ghost use Rattle.code.specs.declared.Decoded.the-variants.{Whole};
+ghost use Rattle.symbols.specs.Codes.{codeOf, isLetter, allLetters, bitsOf};
 use code::Decoded;
 use code::Letter;
 
@@ -79,11 +81,74 @@ pub fn pack(symbols: &[u8], out: &mut [u8])
     }
 }
 
+// Whether a byte is a letter.
+fn is_letter(c: u8) -> bool
+    ensures { λ r. ⌜ r ≡ isLetter c ⌝ }
+{
+    if c == 65 {
+        return true;
+    }
+    if c == 84 {
+        return true;
+    }
+    if c == 67 {
+        return true;
+    }
+    c == 71
+}
+
+// Both hold.
+fn both(a: bool, b: bool) -> bool
+    ensures { λ r. ⌜ r ≡ (a && b) ⌝ }
+{
+    if a {
+        return b;
+    }
+    false
+}
+
+// Whether all bytes are letters; every byte is looked at, so that many are at once.
+fn all_letters(letters: &[u8]) -> bool
+    ensures { λ r. ⌜ r ≡ allLetters (now (letters .entry)) ⌝ }
+{
+    let mut all = true;
+    let mut i = 0;
+    while i < letters.len() {
+        all = both(all, is_letter(letters[i]));
+        i += 1;
+    }
+    all
+}
+
+// The symbol of a letter: its second lowest bit is the high one, its third lowest the low one.
+fn bits_of(c: u8) -> u8
+    ensures { λ r. ⌜ r ≡ bitsOf c ⌝ }
+{
+    (c & 2) + ((c >> 2) & 1)
+}
+
+// The symbols of letters throughout, at the front of `out`.
+fn decode_letters(letters: &[u8], out: &mut [u8])
+    requires { ⌜ allLetters (now letters) ≡ true ⌝ }
+    requires { ⌜ length (now letters) ≤ length (now out) ⌝ }
+    ensures { λ _. ⌜ (Whole ≡ decoded (now (letters .entry))) × (now (out .exit) ≡ legible (now (letters .entry)) ++ drop (length (legible (now (letters .entry)))) (now (out .entry))) ⌝ }
+{
+    let mut i = 0;
+    while i < letters.len() {
+        out[i] = bits_of(letters[i]);
+        i += 1;
+    }
+}
+
 // The symbols of letters at the front of `out`, up to the first byte that is no letter.
 pub fn decode(letters: &[u8], out: &mut [u8]) -> Decoded
     requires { ⌜ length (now letters) ≤ length (now out) ⌝ }
     ensures { λ r. ⌜ (r ≡ decoded (now (letters .entry))) × (now (out .exit) ≡ legible (now (letters .entry)) ++ drop (length (legible (now (letters .entry)))) (now (out .entry))) ⌝ }
 {
+    if all_letters(letters) {
+        decode_letters(letters, out);
+        return Decoded::Whole;
+    }
     let codes = table::CODES;
     let mut i = 0;
     while i < letters.len() {

@@ -1,7 +1,8 @@
-use mathlib.Core.Path.{_≡_, refl, _∙_}
+use mathlib.Core.Path.{_≡_, refl, sym, _∙_}
 use mathlib.Core.List.{_++_}
 use Prim.Native.Nat.{_+_, _-_, _<_, _≤_}
 use native.Mathlib.Omega.{arith}
+use borrow.Author.Needs.{needs}
 use lib.ListN.{length, getD, take, drop, length-set}
 use Rattle.code.specs.Lists.{write-next, write-all}
 use Rattle.code.specs.Symbols.{legible}
@@ -22,31 +23,35 @@ decode-spec =
     (tie.spec
     Inv-loop
     μ-loop
-    (λ c. (omega arith, refl, refl, none-read (c .args .letters .now)))
+    (λ c κs. tt)
+    (λ c κs. (sym (c .before .before .all-letters .ensures) ∙ c .before .if1 .taken, c .before .before .before .before .before .pre))
+    (λ c. search needs)
+    (λ c. c .before .before .decode-letters .ensures)
+    (λ c. (omega arith, refl, refl, none-read (c .before .before .before .before .args .letters .now)))
     (λ c. omega arith)
-    (λ c. record { fits = omega (arith, c .shared-slice-known .given (c .before .before .loop .i)) })
-    (λ c. omega (arith, c .shared-slice-known .given (c .before .before .loop .i)))
+    (λ c. record { fits = omega (arith, c .shared-slice-known2 .given (c .before .before .loop .i)) })
+    (λ c. omega (arith, c .shared-slice-known2 .given (c .before .before .loop .i)))
     (λ c. omega arith)
     (λ c. omega arith)
     (λ c.
     let l = c .before .before .before .loop in
-    let a = c .before .before .before .before .args in
+    let a = c .before .before .before .before .before .before .before .before .args in
     let cs = a .letters .now in
     let h : l .i < length cs = omega arith in
     let x = getD cs (l .i) 0 in
-    let e = code-at x (omega (arith, c .before .shared-slice-known .given (l .i))) in
+    let e = code-at x (omega (arith, c .before .shared-slice-known2 .given (l .i))) in
     let f = code-foreign x _ e (omega arith) in
     (verdict-foreign cs (l .i) (l .inv .3) h f, l .inv .2 ∙ write-all (legible cs) (a .out .now) (l .i) (length-foreign cs (l .i) (l .inv .3) h f)))
     (λ c. omega arith)
     (λ c. omega arith)
     (λ c.
     let l = c .before .before .before .loop in
-    let a = c .before .before .before .before .args in
+    let a = c .before .before .before .before .before .before .before .before .args in
     let cs = a .letters .now in
     let h : l .i < length cs = omega arith in
     let x = getD cs (l .i) 0 in
-    let e = code-at x (omega (arith, c .before .shared-slice-known .given (l .i))) in
-    let f = code-symbol x _ e (c .if1 .left) in (
+    let e = code-at x (omega (arith, c .before .shared-slice-known2 .given (l .i))) in
+    let f = code-symbol x _ e (c .if2 .left) in (
       omega arith,
       simp length-set (l .inv .1),
       rw (l .inv .2) (write-next (legible cs) _ (a .out .now) (l .i) _ (legible-next cs (l .i) (l .inv .3) h _ f) (omega arith)),
@@ -55,7 +60,7 @@ decode-spec =
     (λ c. omega arith)
     (λ c.
     let l = c .before .loop in
-    let a = c .before .before .args in
+    let a = c .before .before .before .before .before .before .args in
     let cs = a .letters .now in
     let h : length cs ≤ l .i = omega arith in
     (verdict-whole cs (l .i) (l .inv .3) h, l .inv .2 ∙ write-all (legible cs) (a .out .now) (l .i) (length-whole cs (l .i) (l .inv .3) h))))

@@ -1,0 +1,56 @@
+use mathlib.Core.Path.{_≡_, refl, sym, ap, _∙_}
+use mathlib.Core.Bool.{true}
+use mathlib.Core.List.{_++_}
+use Prim.Native.Nat.{_+_, _-_, _<_, _≤_}
+use native.Mathlib.Omega.{arith}
+use lib.ListN.{length, getD, take, drop, length-set}
+use Rattle.code.specs.declared.Letter.the-variants.{Symbol}
+use Rattle.code.specs.Lists.{write-next, write-all}
+use Rattle.code.specs.Symbols.{legible}
+use Rattle.symbols.specs.Codes.{allLetters}
+use Rattle.symbols.proofs.Codes.{letter-bits}
+use Rattle.symbols.proofs.Steps.{Letters, none-read, legible-next, one-more, verdict-whole, length-whole, letters-next}
+use Rattle.symbols.proofs.decode_letters.Statement.{statement}
+use Rattle.symbols.proofs.decode_letters.Tie as tie
+
+abbrev Inv-loop : tie.InvT-loop
+Inv-loop letters out₀ i₀ out i = (i ≤ length letters) × (length out ≡ length out₀) × (out ≡ take i (legible letters) ++ drop i out₀) × Letters letters i × (allLetters (drop i letters) ≡ true)
+
+abbrev μ-loop : tie.MeasureT-loop
+μ-loop letters out₀ i₀ out i = length letters - i
+
+pub decode-letters-spec : {M : Type 1} → statement M
+decode-letters-spec =
+    tie.close
+    (tie.spec
+    Inv-loop
+    μ-loop
+    (λ c.
+    let a = c .before .before .args in
+    (omega arith, refl, refl, none-read (a .letters .now), c .before .before .pre .0))
+    (λ c. omega arith)
+    (λ c κs. tt)
+    (λ c. omega arith)
+    (λ c. omega arith)
+    (λ c. omega arith)
+    (λ c.
+    let l = c .before .before .before .loop in
+    let a = c .before .before .before .before .before .before .args in
+    let cs = a .letters .now in
+    let h : l .i < length cs = omega arith in
+    let s = c .bits-of .result in
+    let n = letters-next cs (l .i) h (l .inv .4) in
+    let e = letter-bits (getD cs (l .i) 0) (n .0) ∙ ap Symbol (sym (c .bits-of .ensures)) in (
+      omega arith,
+      simp length-set (l .inv .1),
+      rw (l .inv .2) (write-next (legible cs) _ (a .out .now) (l .i) s (legible-next cs (l .i) (l .inv .3) h s e) (omega arith)),
+      one-more cs (l .i) (l .inv .3) h s e,
+      n .1,
+    ))
+    (λ c. omega arith)
+    (λ c.
+    let l = c .before .loop in
+    let a = c .before .before .before .before .args in
+    let cs = a .letters .now in
+    let h : length cs ≤ l .i = omega arith in
+    (verdict-whole cs (l .i) (l .inv .3) h, l .inv .2 ∙ write-all (legible cs) (a .out .now) (l .i) (length-whole cs (l .i) (l .inv .3) h))))
