@@ -1,9 +1,9 @@
 -- Laws of the layers, in the order of their definitions.
-use mathlib.Core.Path.{_≡_, refl, sym, ap}
+use mathlib.Core.Path.{_≡_, refl, sym, ap, _∙_}
 use mathlib.Core.Bool.{Bool, true, false}
 use mathlib.Core.List.{List, [], _∷_}
 use Prim.Native.Nat.{ℕ, zero, suc, _+_, _-_, _*_, _/_, _%_, _^_, _≤_, _<_}
-use native.Mathlib.Nat.{mod-lt, mod-one, pow-succ', le-antisymm, lt-of-not-le, le-of-suc-le-suc, not-suc-le-zero, mul-suc, add-zero, zero-add, add-suc, suc-add}
+use native.Mathlib.Nat.{mod-lt, mod-eq-of-lt, mod-one, pow-succ', le-antisymm, lt-of-not-le, le-of-suc-le-suc, not-suc-le-zero, mul-suc, add-zero, zero-add, add-suc, suc-add}
 use native.Mathlib.Omega.{arith}
 use borrow.Author.Tests.{leb-true, leb-false}
 use lib.Count.{leadingZeros, leading-length}
@@ -168,3 +168,23 @@ pub number-bits : (t v : ℕ) → number (bits t v) ≡ v % 2 ^ t
 unfolding bits number
 number-bits zero v = sym (mod-one v)
 number-bits (suc t) v = rw (digit-bit t v, length-bits t v, number-bits t v, ← one-add t) (sym (mod-pow-add v 1 t))
+
+-- words of one length that write one number are one
+number-same : (u w : Word) → length u ≡ length w → number u ≡ number w → u ≡ w
+unfolding number
+number-same [] [] e n = refl
+number-same [] (b ∷ w) e n = absurd (omega arith)
+number-same (a ∷ u) [] e n = absurd (omega arith)
+number-same (a ∷ u) (b ∷ w) e n = go a b n (number-same u w (omega arith))
+  where
+    p : 2 ^ length u ≡ 2 ^ length w
+    p = ap (_^_ 2) (omega arith)
+
+    go : (a b : Bool) → digit a * 2 ^ length u + number u ≡ digit b * 2 ^ length w + number w → (number u ≡ number w → u ≡ w) → a ∷ u ≡ b ∷ w
+    go true true h next = ap (_∷_ true) (next (omega (arith, p)))
+    go false false h next = ap (_∷_ false) (next (omega (arith, p)))
+    go true false h next = absurd (omega (arith, p, number-below w))
+    go false true h next = absurd (omega (arith, p, number-below u))
+
+pub bits-number : (w : Word) → bits (length w) (number w) ≡ w
+bits-number w = number-same (bits (length w) (number w)) w (length-bits (length w) (number w)) (number-bits (length w) (number w) ∙ mod-eq-of-lt (number-below w))

@@ -9,15 +9,15 @@ use lib.ListN.{length, getD, take, drop, length-map, take-append-drop, length-ap
 use lib.Seq.{take-length, take-at, length-take-le}
 use lib.Dec.{eqb}
 use Rattle.code.specs.Symbols.{Below}
-use Rattle.code.specs.Segment.{check, separator, syndromeOf, segment, lastOf, size}
+use Rattle.code.specs.Segment.{check, marker, block, segment, lastOf, size}
 use Rattle.code.specs.SegmentLaws.{length-segment}
 use Rattle.code.specs.Layout.{joined}
 use Rattle.code.specs.Edits.{judged}
 use Rattle.code.specs.EditsLaws.{same-refl}
 use Rattle.code.specs.Reading.{Got, message, One, read, lost, level, got, endOf, clean, readOne, withMessage, withEnd, withEdit}
 use Rattle.code.specs.ReadingLaws.{starts-split}
-use Rattle.code.specs.StepLaws.{pre, Reads, segment-parts}
-use Rattle.code.specs.MessageEdits.{ending, marker-edit}
+use Rattle.code.specs.StepLaws.{pre, Reads, Final, reads-settled}
+use Rattle.code.specs.MessageEdits.{ending, message-edit}
 use Rattle.code.specs.Strands.{Outcome, firstStart, scan, unfound, withScan, withOne, reading, markOf, marksOf, countOf}
 use Rattle.code.specs.declared.Edit.{Edit}
 use Rattle.code.specs.declared.Edit.the-variants.{None, Sub, Del, Ins}
@@ -116,12 +116,29 @@ pub clean-split : (k f : ℕ) (raw : List ℕ) → clean k f raw ≡ true → ra
 unfolding clean
 clean-split k f raw e = starts-split (segment true f (take k (drop 2 raw))) raw e
 
--- a clean segment that another follows is read, and counts as clean
-pub clean-read : (f : ℕ) (m r : List ℕ) (k : ℕ) (ks : List ℕ) → 2 ≤ length m → Below 4 m → readOne true f (length m) (k ∷ ks) (segment true f m ++ r) (segment true f m ++ r) ≡ read m None (size true (length m))
+-- a segment, its marker or nothing before it, in the parts that an edit may hit
+segment-pre : (marked : Bool) (f : ℕ) (m : List ℕ) → segment marked f m ≡ pre marked f m ++ ((m ++ check m ∷ []) ++ ending m)
+unfolding segment block
+segment-pre true f m = ap (λ (l : List ℕ). marker f m ∷ marker f m ∷ l) (sym (append-assoc m (check m ∷ []) (ending m)))
+segment-pre false f m = sym (append-assoc m (check m ∷ []) (ending m))
+
+-- a written segment is read, and it ends where it was written, with nothing behind it if it is the last
+clean-reads : (marked : Bool) (f : ℕ) (m r ks : List ℕ) → 2 ≤ length m → Below 4 m → Final ks r → Reads marked m ks (segment marked f m ++ r) (size marked (length m))
+clean-reads marked f m r ks two small last =
+    let v = (m ++ check m ∷ []) ++ ending m in
+    let t = message-edit m two small r None tt (λ q. q) in
+    let whole : pre marked f m ++ (v ++ r) ≡ segment marked f m ++ r = sym (append-assoc (pre marked f m) v r) ∙ ap (λ (l : List ℕ). l ++ r) (sym (segment-pre marked f m)) in
+    let long : length (pre marked f m ++ v) ≡ size marked (length m) = ap length (sym (segment-pre marked f m)) ∙ length-segment marked f m in
+    rw (← whole, ← long) (reads-settled m marked f ks v r (t .shift) (t .settles) (t .size-is) last)
+
+-- its message is read
+pub clean-got : (marked : Bool) (f : ℕ) (m r : List ℕ) → 2 ≤ length m → Below 4 m → got marked (length m) (segment marked f m ++ r) ≡ message m
+clean-got marked f m r two small = clean-reads marked f m r (0 ∷ []) two small (λ q. absurd (cons≢nil q)) .got-is
+
+-- it counts as clean
+pub clean-read : (marked : Bool) (f : ℕ) (m r ks : List ℕ) → 2 ≤ length m → Below 4 m → Final ks r → readOne marked f (length m) ks (segment marked f m ++ r) (segment marked f m ++ r) ≡ read m None (size marked (length m))
 unfolding readOne judged
-clean-read f m r k ks two small =
-    let w = segment true f m in
-    let n = length-segment true f m in
-    let e : length (pre true f m ++ (m ++ check m ∷ ending m)) ≡ size true (length m) = sym (ap length (sym (append-nil w) ∙ segment-parts true f m [] ∙ ap (λ (l : List ℕ). pre true f m ++ (m ++ check m ∷ separator m ∷ separator m ∷ separator m ∷ l)) (append-nil (syndromeOf m)))) ∙ n in
-    let g : Reads true m (k ∷ ks) (w ++ r) (size true (length m)) = rw (segment-parts true f m r, ← e) (marker-edit m two small r f (k ∷ ks) (λ q. absurd (cons≢nil q)) None tt (λ q. q)) in
-    rw (g .got-is, g .end-is, take-at w r (size true (length m)) n, same-refl w)
+clean-read marked f m r ks two small last =
+    let w = segment marked f m in
+    let g = clean-reads marked f m r ks two small last in
+    rw (g .got-is, g .end-is, take-at w r (size marked (length m)) (length-segment marked f m), same-refl w)

@@ -1,5 +1,6 @@
+pub mod Ahead
+pub mod Digits
+pub mod Ends
+pub mod Mending
 pub mod Running
 pub mod Tried
-pub mod Ahead
-pub mod Mending
-pub mod Digits

@@ -1,15 +1,18 @@
 -- Running sums over one layer, from the last symbol to the first.
-use mathlib.Core.Path.{_≡_, ap, _∙_}
+use mathlib.Core.Path.{_≡_, sym, ap, _∙_}
 use mathlib.Core.Bool.{false}
 use mathlib.Core.List.{List, _∷_}
-use Prim.Native.Nat.{ℕ, suc, _+_, _*_, _^_, _≤_, _<_}
+use Prim.Native.Nat.{ℕ, suc, _+_, _*_, _%_, _^_, _≤_, _<_}
 use native.Mathlib.Nat.{pow-succ'}
 use native.Mathlib.Omega.{arith}
 use lib.Pow.{pow-mono}
 use lib.ListN.{length, getD, drop, length-drop, drop-of-length-le}
 use lib.Seq.{drop-cons}
 use Rattle.code.specs.Layers.{bit, layer, digit, ones, sumOfPlaces, sumFrom, number}
+use Rattle.code.specs.Segment.{check}
 use Rattle.code.specs.LayersLaws.{layer-at, length-layer, ones-le, sum-cons, sum-le, number-below}
+use Rattle.layers.specs.Answers.{sumsOf}
+use Rattle.layers.proofs.Ends.{check-ones}
 
 -- the ones of the layer from place i on, and the sum of their places counted from there
 pub record Running (s : ℕ) (m : List ℕ) (i o v : ℕ) : Type 0 where
@@ -54,8 +57,16 @@ module _ (s : ℕ) (m : List ℕ) where
       let l : length w ≤ 65536 = simp length-drop (omega (arith, length-layer s m)) in
       (omega (arith, r .counted, ones-le w, length-drop i (layer s m), length-layer s m), omega (arith, r .summed, sum-le 65536 w l))
 
-  pub end : (i o v : ℕ) → i ≡ 0 → Running s m i o v → v ≡ sumOfPlaces (layer s m)
-  end i o v e r = r .summed ∙ rw e
+  end : (i o v : ℕ) → i ≡ 0 → Running s m i o v → (o ≡ ones (layer s m)) × (v ≡ sumOfPlaces (layer s m))
+  end i o v e r = (r .counted ∙ rw e, r .summed ∙ rw e)
+
+-- what both layers' running numbers come to
+pub summed : (m : List ℕ) (i p h q l : ℕ) → i ≡ 0 → Running 1 m i p h → Running 0 m i q l → record { check = (2 * p + q) % 4; places = record { high = h; low = l } } ≡ sumsOf m
+summed m i p h q l e r s =
+    let high = end 1 m i p h e r in
+    let low = end 0 m i q l e s in
+    let c : (2 * p + q) % 4 ≡ check m = rw (high .0, low .0) (sym (check-ones m)) in
+    λ j. record { check = c j; places = record { high = high .1 j; low = low .1 j } }
 
 -- the number that the layer writes from place i on, and the weight of the bit before it
 pub record Written (s : ℕ) (m : List ℕ) (i w v : ℕ) : Type 0 where

@@ -2,19 +2,25 @@
 use code::Link;
 use code::Repair;
 ghost use mathlib.Core.Path.{_≡_};
-ghost use Prim.Native.Nat.{_+_, _*_, _%_, _<_, _≤_};
+ghost use Prim.Native.Nat.{_+_, _-_, _*_, _%_, _<_, _≤_};
 ghost use mathlib.Core.Bool.{false};
 ghost use lib.ListN.{length, getD, take};
 ghost use Rattle.code.specs.Layers.{layer, bit, digit, pair, sumOfPlaces, syndrome, width, number};
 ghost use Rattle.code.specs.Links.{sent};
 ghost use Rattle.code.specs.Repair.{repair, mended, mendedWord};
 ghost use Rattle.code.specs.declared.Link.the-variants.{Changed, More, Less};
-ghost use Rattle.layers.specs.Answers.{both, ahead};
+ghost use Rattle.layers.specs.Answers.{both, sumsOf, ahead};
 
 // A number for each layer.
 pub struct Layers {
     pub high: usize,
     pub low: usize,
+}
+
+// The check of some symbols, and the sum of places of each layer.
+pub struct Summed {
+    pub check: u8,
+    pub places: Layers,
 }
 
 // t, the number of syndrome symbols that k message symbols have.
@@ -33,10 +39,10 @@ fn digit_of(symbol: u8, shift: u8) -> usize
     ((symbol >> shift) & 1) as usize
 }
 
-// The sum of places of each layer, formed by running sums from the last symbol to the first.
-pub fn sums(symbols: &[u8]) -> Layers
+// The check, and the sum of places of each layer, formed by running sums from the last symbol to the first.
+pub fn sums(symbols: &[u8]) -> Summed
     requires { ⌜ length (now symbols) < 65536 ⌝ }
-    ensures { λ r. ⌜ r ≡ both sumOfPlaces (now (symbols .entry)) ⌝ }
+    ensures { λ r. ⌜ r ≡ sumsOf (now (symbols .entry)) ⌝ }
 {
     let mut i = symbols.len();
     let mut high_ones: usize = 0;
@@ -51,19 +57,47 @@ pub fn sums(symbols: &[u8]) -> Layers
         high += high_ones;
         low += low_ones;
     }
-    Layers { high, low }
+    Summed {
+        check: ((2 * high_ones + low_ones) % 4) as u8,
+        places: Layers { high, low },
+    }
 }
 
-// The syndrome of each layer.
-pub fn syndromes(symbols: &[u8]) -> Layers
-    requires { ⌜ (0 < length (now symbols)) × (length (now symbols) < 65536) ⌝ }
+// The sums of places of some symbols, from those of all but the last.
+pub fn with_last(symbols: &[u8], places: Layers) -> Layers
+    requires { ⌜ (0 < length (now symbols)) × (length (now symbols) < 65536) × (places ≡ both sumOfPlaces (take (length (now symbols) - 1) (now symbols))) ⌝ }
+    ensures { λ r. ⌜ r ≡ both sumOfPlaces (now (symbols .entry)) ⌝ }
+{
+    let k = symbols.len();
+    let x = symbols[k - 1];
+    Layers {
+        high: places.high + k * digit_of(x, 1),
+        low: places.low + k * digit_of(x, 0),
+    }
+}
+
+// The sums of places of all symbols but the last, from those of all.
+pub fn without_last(symbols: &[u8], places: Layers) -> Layers
+    requires { ⌜ (0 < length (now symbols)) × (length (now symbols) < 65536) × (places ≡ both sumOfPlaces (now symbols)) ⌝ }
+    ensures { λ r. ⌜ r ≡ both sumOfPlaces (take (length (now (symbols .entry)) - 1) (now (symbols .entry))) ⌝ }
+{
+    let k = symbols.len();
+    let x = symbols[k - 1];
+    Layers {
+        high: places.high - k * digit_of(x, 1),
+        low: places.low - k * digit_of(x, 0),
+    }
+}
+
+// The syndrome of each layer, from the sums of places.
+pub fn syndromes(symbols: &[u8], places: Layers) -> Layers
+    requires { ⌜ (0 < length (now symbols)) × (length (now symbols) < 65536) × (places ≡ both sumOfPlaces (now symbols)) ⌝ }
     ensures { λ r. ⌜ r ≡ both syndrome (now (symbols .entry)) ⌝ }
 {
-    let s = sums(symbols);
     let m = 2 * symbols.len();
     Layers {
-        high: s.high % m,
-        low: s.low % m,
+        high: places.high % m,
+        low: places.low % m,
     }
 }
 

@@ -1,3 +1,4 @@
 pub mod Separators
 pub mod Mends
 pub mod Steps
+pub mod Parts

@@ -5,17 +5,19 @@ use compare::offsets::moved_by;
 use compare::tests::is_at;
 use compare::tests::stands_at;
 use compare::tests::three_equal;
-use compare::tests::two_equal;
 use layers::Fix;
+use layers::Layers;
 use segment::Tail;
 ghost use mathlib.Core.Path.{_≡_};
 ghost use Prim.Native.Nat.{_+_, _-_, _<_, _≤_};
 ghost use lib.ListN.{length, take, drop};
 ghost use Rattle.code.specs.Symbols.{Below};
-ghost use Rattle.code.specs.Layers.{layer, number, width};
+ghost use Rattle.code.specs.Layers.{layer, number, sumOfPlaces, width};
 ghost use Rattle.code.specs.Links.{sent};
 ghost use Rattle.code.specs.Repair.{repair};
-ghost use Rattle.code.specs.Reading.{starts, bothLayers, separatorAt, linkOf, moved, dataAt, afterSeparator, message, repaired, messageAt, messageWithout, gotHit, gotWhole, got};
+ghost use Rattle.code.specs.Reading.{starts, bothLayers, separatorAt, linkOf, moved, afterSeparator, message, repaired, messageAt, messageWithout, gotHit, gotWhole};
+ghost use Rattle.layers.specs.Answers.{both};
+ghost use Rattle.segment.specs.Tails.{IsTail};
 ghost use Rattle.message.specs.Answers.{shiftIndex, shiftOf, tookBy, IsGot};
 ghost use mathlib.Core.Option.{some};
 
@@ -49,7 +51,7 @@ pub fn shifted(n: usize, j: usize) -> usize
 }
 
 // The symbols from a place on, in `out`.
-fn copy(s: &[u8], from: usize, out: &mut [u8])
+pub fn copy(s: &[u8], from: usize, out: &mut [u8])
     requires { ⌜ from + length (now out) ≤ length (now s) ⌝ }
     ensures { λ _. ⌜ now (out .exit) ≡ take (length (now (out .entry))) (drop from (now (s .entry))) ⌝ }
 {
@@ -75,17 +77,26 @@ fn lost_in(step: u8) -> Got
     }
 }
 
+// The message is the symbols from a place on, whose tail is known.
+fn taken_with(s: &[u8], from: usize, tail: Tail, out: &mut [u8]) -> Got
+    requires { ⌜ (2 ≤ length (now out)) × (length (now out) ≤ 4096) × (from + length (now out) ≤ length (now s)) ⌝ }
+    requires { ⌜ Below 4 (now s) ⌝ }
+    requires { ⌜ IsTail (take (length (now out)) (drop from (now s))) tail ⌝ }
+    ensures { λ r. ⌜ IsGot (message (take (length (now (out .entry))) (drop from (now (s .entry))))) (now (out .exit)) r ⌝ }
+{
+    copy(s, from, out);
+    Got { step: 0, tail }
+}
+
 // The message is the symbols from a place on.
 fn taken(s: &[u8], from: usize, out: &mut [u8]) -> Got
     requires { ⌜ (2 ≤ length (now out)) × (length (now out) ≤ 4096) × (from + length (now out) ≤ length (now s)) ⌝ }
     requires { ⌜ Below 4 (now s) ⌝ }
     ensures { λ r. ⌜ IsGot (message (take (length (now (out .entry))) (drop from (now (s .entry))))) (now (out .exit)) r ⌝ }
 {
-    copy(s, from, out);
-    Got {
-        step: 0,
-        tail: segment::tail_of(out),
-    }
+    let to = from + out.len();
+    let tail = segment::tail_of(&s[from..to]);
+    taken_with(s, from, tail, out)
 }
 
 // The t syndrome symbols of a tail stand at a place.
@@ -98,20 +109,15 @@ pub fn syndrome_at(tail: Tail, s: &[u8], at: usize) -> bool
     stands_at(&syndrome[..width], s, at)
 }
 
-// Step 6: with no separator the symbols at d, if the check agrees.
-fn without_separator(s: &[u8], d: usize, out: &mut [u8]) -> Got
-    requires { ⌜ (2 ≤ length (now out)) × (length (now out) ≤ 4096) × (d < 16384) ⌝ }
+// Step 6: with no separator the symbols at d, whose tail is known, if the check agrees.
+fn without_separator(s: &[u8], d: usize, tail: Tail, out: &mut [u8]) -> Got
+    requires { ⌜ (2 ≤ length (now out)) × (length (now out) ≤ 4096) × (d + length (now out) ≤ length (now s)) × (length (now s) < 16384) ⌝ }
     requires { ⌜ Below 4 (now s) ⌝ }
+    requires { ⌜ IsTail (take (length (now out)) (drop d (now s))) tail ⌝ }
     ensures { λ r. ⌜ IsGot (messageWithout (length (now (out .entry))) (drop d (now (s .entry)))) (now (out .exit)) r ⌝ }
 {
-    let k = out.len();
-    if s.len() <= d + k {
-        return lost_in(6);
-    }
-    let g = taken(s, d, out);
-    let tail = g.tail;
-    if is_at(tail.check, s, d + k) {
-        return g;
+    if is_at(tail.check, s, d + out.len()) {
+        return taken_with(s, d, tail, out);
     }
     lost_in(6)
 }
@@ -129,13 +135,13 @@ fn link_of(j: usize) -> Link
     Link::More
 }
 
-// Step 7: both layers of the received symbols repaired with the syndromes that the written ones hold.
-fn mend_both(link: Link, received: &[u8], written: &[u8], out: &mut [u8]) -> Got
-    requires { ⌜ (2 ≤ length (now out)) × (length (now out) ≤ 4096) × (length (now written) ≤ 16) ⌝ }
-    requires { ⌜ (length (now out) ≡ sent link (length (now received))) × (length (now received) ≤ 4097) ⌝ }
+// Step 7: both layers of the received symbols repaired, from their sums of places, with the syndromes that the written symbols hold.
+fn mend_both(link: Link, received: &[u8], sums: Layers, written: &[u8], out: &mut [u8]) -> Got
+    requires { ⌜ (2 ≤ length (now out)) × (length (now out) ≤ 4096) × (length (now written) ≡ width (length (now out))) ⌝ }
+    requires { ⌜ (length (now out) ≡ sent link (length (now received))) × (length (now received) ≤ 4097) × (sums ≡ both sumOfPlaces (now received)) ⌝ }
+    requires { ⌜ Below 4 (now written) ⌝ }
     ensures { λ r. ⌜ IsGot (bothLayers (repair link (number (layer 1 (now (written .entry)))) (layer 1 (now (received .entry)))) (repair link (number (layer 0 (now (written .entry)))) (layer 0 (now (received .entry))))) (now (out .exit)) r ⌝ }
 {
-    let sums = layers::sums(received);
     let numbers = layers::numbers(written);
     let Repair::At(high, high_bit) = layers::mend(link, received, 1, sums.high, numbers.high) else {
         return lost_in(7);
@@ -158,14 +164,32 @@ fn mend_both(link: Link, received: &[u8], written: &[u8], out: &mut [u8]) -> Got
     );
     Got {
         step: 0,
-        tail: segment::tail_of(out),
+        tail: segment::tail_given(out, written),
     }
 }
 
-// Step 7: both layers repaired from the received symbols at d, with the syndrome written after the separator.
-fn repair_at(s: &[u8], d: usize, j: usize, out: &mut [u8]) -> Got
+// The sums of places of the received symbols, from those of the k symbols at d: the same, or of one symbol less or more.
+fn received_sums(s: &[u8], d: usize, k: usize, j: usize, sums: Layers) -> Layers
+    requires { ⌜ (0 < k) × (k ≤ 4096) × (j < 3) × (d + k ≤ length (now s)) × (length (now s) < 16384) ⌝ }
+    requires { ⌜ (d + moved (shiftOf j) k ≤ length (now s)) × (sums ≡ both sumOfPlaces (take k (drop d (now s)))) ⌝ }
+    ensures { λ r. ⌜ r ≡ both sumOfPlaces (take (moved (shiftOf j) k) (drop d (now (s .entry)))) ⌝ }
+{
+    if j == 0 {
+        return sums;
+    }
+    let to = d + k;
+    if j == 1 {
+        return layers::without_last(&s[d..to], sums);
+    }
+    layers::with_last(&s[d..to + 1], sums)
+}
+
+// Step 7: both layers repaired from the received symbols at d, with the syndrome written after the separator; the k symbols at d are summed.
+fn repair_at(s: &[u8], d: usize, j: usize, sums: Layers, out: &mut [u8]) -> Got
     requires { ⌜ (2 ≤ length (now out)) × (length (now out) ≤ 4096) × (j < 3) ⌝ }
     requires { ⌜ (d + (moved (shiftOf j) (length (now out) + 1) + 3) ≤ length (now s)) × (length (now s) < 16384) ⌝ }
+    requires { ⌜ sums ≡ both sumOfPlaces (take (length (now out)) (drop d (now s))) ⌝ }
+    requires { ⌜ Below 4 (now s) ⌝ }
     ensures { λ r. ⌜ IsGot (repaired (linkOf (shiftOf j)) (width (length (now (out .entry)))) (take (moved (shiftOf j) (length (now (out .entry)))) (drop d (now (s .entry)))) (afterSeparator (shiftOf j) (length (now (out .entry))) (drop d (now (s .entry))))) (now (out .exit)) r ⌝ }
 {
     let k = out.len();
@@ -176,7 +200,8 @@ fn repair_at(s: &[u8], d: usize, j: usize, out: &mut [u8]) -> Got
         return lost_in(7);
     }
     let to = d + shifted(k, j);
-    mend_both(link_of(j), &s[d..to], &s[after..end], out)
+    let received = received_sums(s, d, k, j, sums);
+    mend_both(link_of(j), &s[d..to], received, &s[after..end], out)
 }
 
 // The symbols at d are taken as they stand: the check agrees, where the separator is in its place, or the syndrome.
@@ -193,24 +218,22 @@ fn agrees(s: &[u8], d: usize, k: usize, j: usize, tail: Tail) -> bool
     syndrome_at(tail, s, d + (k + 1 + 3))
 }
 
-// Steps 4 and 5: the symbols at d, or the repaired ones, where the separator was found moved by the j-th offset.
-fn at_separator(s: &[u8], d: usize, j: usize, out: &mut [u8]) -> Got
+// Steps 4 and 5: the symbols at d, with their sums and tail, or the repaired ones, where the separator was found moved by the j-th offset.
+fn at_separator(s: &[u8], d: usize, j: usize, sums: Layers, tail: Tail, out: &mut [u8]) -> Got
     requires { ⌜ (2 ≤ length (now out)) × (length (now out) ≤ 4096) × (j < 3) ⌝ }
     requires { ⌜ (d + (moved (shiftOf j) (length (now out) + 1) + 3) ≤ length (now s)) × (length (now s) < 16384) ⌝ }
+    requires { ⌜ (sums ≡ both sumOfPlaces (take (length (now out)) (drop d (now s)))) × IsTail (take (length (now out)) (drop d (now s))) tail ⌝ }
     requires { ⌜ Below 4 (now s) ⌝ }
     ensures { λ r. ⌜ IsGot (messageAt (shiftOf j) (length (now (out .entry))) (drop d (now (s .entry)))) (now (out .exit)) r ⌝ }
 {
-    let k = out.len();
-    let g = taken(s, d, out);
-    let tail = g.tail;
-    if agrees(s, d, k, j, tail) {
-        return g;
+    if agrees(s, d, out.len(), j, tail) {
+        return taken_with(s, d, tail, out);
     }
-    repair_at(s, d, j, out)
+    repair_at(s, d, j, sums, out)
 }
 
 // Step 3: the marker is hit; the symbols before the check, which stands before the separator.
-fn at_hit_marker(s: &[u8], p: usize, j: usize, out: &mut [u8]) -> Got
+pub fn read_hit(s: &[u8], p: usize, j: usize, out: &mut [u8]) -> Got
     requires { ⌜ (2 ≤ length (now out)) × (length (now out) ≤ 4096) × (p < 16384) ⌝ }
     requires { ⌜ (j ≡ shiftIndex (separatorAt (length (now out)) (drop (p + 2) (now s)))) × (length (now s) < 16384) ⌝ }
     requires { ⌜ Below 4 (now s) ⌝ }
@@ -222,31 +245,16 @@ fn at_hit_marker(s: &[u8], p: usize, j: usize, out: &mut [u8]) -> Got
     taken(s, p + shifted(2, j), out)
 }
 
-// Steps 3 to 7, where the separator was found moved by the j-th offset, or not.
-pub fn read_message(s: &[u8], p: usize, marked: bool, j: usize, out: &mut [u8]) -> Got
-    requires { ⌜ (2 ≤ length (now out)) × (length (now out) ≤ 4096) × (p ≤ length (now s)) ⌝ }
-    requires { ⌜ (j ≡ shiftIndex (separatorAt (length (now out)) (drop (dataAt marked) (drop p (now s))))) × (length (now s) < 16000) ⌝ }
-    requires { ⌜ Below 4 (now s) ⌝ }
-    ensures { λ r. ⌜ IsGot (got marked (length (now (out .entry))) (drop p (now (s .entry)))) (now (out .exit)) r ⌝ }
-{
-    if marked {
-        if !two_equal(s, p) {
-            return at_hit_marker(s, p, j, out);
-        }
-        return behind_marker(s, p + 2, j, out);
-    }
-    behind_marker(s, p, j, out)
-}
-
-// Steps 4 to 6: the marker is whole, and the message stands from d on.
-fn behind_marker(s: &[u8], d: usize, j: usize, out: &mut [u8]) -> Got
-    requires { ⌜ (2 ≤ length (now out)) × (length (now out) ≤ 4096) × (d < 16384) ⌝ }
+// Steps 4 to 7: the marker is whole, the symbols at d are summed, and the separator was found moved by the j-th offset, or not.
+pub fn read_whole(s: &[u8], d: usize, j: usize, sums: Layers, tail: Tail, out: &mut [u8]) -> Got
+    requires { ⌜ (2 ≤ length (now out)) × (length (now out) ≤ 4096) × (d + length (now out) ≤ length (now s)) ⌝ }
     requires { ⌜ (j ≡ shiftIndex (separatorAt (length (now out)) (drop d (now s)))) × (length (now s) < 16000) ⌝ }
+    requires { ⌜ (sums ≡ both sumOfPlaces (take (length (now out)) (drop d (now s)))) × IsTail (take (length (now out)) (drop d (now s))) tail ⌝ }
     requires { ⌜ Below 4 (now s) ⌝ }
     ensures { λ r. ⌜ IsGot (gotWhole (length (now (out .entry))) (drop d (now (s .entry))) (separatorAt (length (now (out .entry))) (drop d (now (s .entry))))) (now (out .exit)) r ⌝ }
 {
     if 3 <= j {
-        return without_separator(s, d, out);
+        return without_separator(s, d, tail, out);
     }
-    at_separator(s, d, j, out)
+    at_separator(s, d, j, sums, tail, out)
 }

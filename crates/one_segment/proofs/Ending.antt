@@ -1,5 +1,5 @@
 -- Step 8: whether the syndrome settles the end, and where a segment ends.
-use mathlib.Core.Path.{_≡_, refl, sym, ap, _∙_}
+use mathlib.Core.Path.{_≡_, refl, sym, ap, subst, _∙_}
 use mathlib.Core.Bool.{Bool, true, false, cond, true≢false, false≢true}
 use mathlib.Core.List.{List, [], _∷_}
 use mathlib.Core.Option.{Option, some, none}
@@ -24,8 +24,8 @@ use Rattle.scan.specs.declared.Start.{Start}
 use Rattle.scan.specs.declared.Start.the-variants.{At}
 use Rattle.scan.specs.Scans.{firstClean, letterBefore, startAt}
 use Rattle.scan.specs.ScansLaws.{around-first}
-use Rattle.scan.proofs.Starts.{first-inside}
-use Rattle.one_segment.specs.Ones.{followers}
+use Rattle.scan.proofs.Starts.{clean-first, first-inside}
+use Rattle.one_segment.specs.Ones.{followers, CleanAt}
 
 -- one of at most 64 message symbols fits an array of 96
 pub size-most : (marked : Bool) (k : ℕ) → k ≤ 64 → size marked k ≤ 96
@@ -85,6 +85,15 @@ module _ (s m : List ℕ) (p : ℕ) (marked : Bool) where
     end-around (suc x) z b e u n f r g h l q =
         let v : seen ≡ false = sym e ∙ u in
         rw v (rw (← h, ← g) (q ∙ ap (startAt p) (around-first n (suc x) f (drop p s) (drop p s) l)))
+
+-- a start that was found is clean
+pub found-clean : (p next f : ℕ) (s os : List ℕ) (x : Start) → x ≡ startAt p (firstClean next (letterBefore false f (drop p s)) (drop p s) os) → CleanAt next f s x
+unfolding letterBefore
+found-clean p next f s os x e = go (firstClean next (letterBefore false f (drop p s)) (drop p s) os) refl e
+  where
+    go : (o : Option ℕ) → firstClean next (letterBefore false f (drop p s)) (drop p s) os ≡ o → x ≡ startAt p o → CleanAt next f s x
+    go none q h = subst (CleanAt next f s) (sym h) tt
+    go (some o) q h = subst (CleanAt next f s) (sym h) (rw (← drop-drop o p s) (clean-first next (letterBefore false f (drop p s)) (drop p s) os o q))
 
 -- A segment's end lies inside
 

@@ -1,32 +1,33 @@
 -- Steps 1 to 9 put together: what is answered from the message, the end and the comparison.
 use mathlib.Core.Path.{_≡_, refl, sym, ap, subst, _∙_}
-use mathlib.Core.Bool.{Bool, true, false, cond}
+use mathlib.Core.Bool.{Bool, true, false, true≢false, cond}
 use mathlib.Core.List.{List}
 use mathlib.Core.Option.{Option, some, none}
 use Prim.Native.Nat.{ℕ, _+_, _-_, _≤_, _<_}
 use native.Mathlib.Omega.{arith}
 use lib.Dec.{ltb}
-use lib.ListN.{length, take, drop}
+use lib.ListN.{length, take, drop, length-drop}
 use lib.Seq.{drop-drop}
 use Rattle.code.specs.Symbols.{Below}
 use Rattle.code.specs.Layers.{Word, layer, width, number}
 use Rattle.code.specs.Repair.{repair}
-use Rattle.code.specs.Segment.{segment}
+use Rattle.code.specs.Segment.{segment, lastOf}
 use Rattle.code.specs.Edits.{judged}
-use Rattle.code.specs.Reading.{Shift, message, lost, whole, dataAt, moved, separatorAt, afterSeparator, checkAgrees, taken, linkOf, bothLayers, repaired, messageAt, messageWithout, gotWhole, gotHit, got, endOf, withEdit, withEnd, withMessage, readOne}
+use Rattle.code.specs.Reading.{Shift, level, early, late, message, lost, whole, dataAt, moved, separatorAt, afterSeparator, checkAgrees, taken, linkOf, bothLayers, repaired, messageAt, messageWithout, gotWhole, gotHit, got, clean, endOf, withEdit, withEnd, withMessage, readOne}
 use Rattle.code.specs.Reading as R
 use Rattle.code.specs.MessageLengths.{got-length}
 use Rattle.code.specs.declared.Edit.{Edit}
 use Rattle.code.specs.declared.Link.{Link}
 use Rattle.segment.specs.Tails.{IsTail}
 use Rattle.message.specs.declared.Got.{Got}
-use Rattle.message.specs.Answers.{shiftIndex, IsGot}
+use Rattle.message.specs.Answers.{shiftIndex, shiftOf, IsGot}
+use Rattle.message.proofs.Steps.{without-short, found-room, moved-least}
 use Rattle.scan.specs.declared.Start.{Start}
-use Rattle.scan.specs.declared.Start.the-variants.{Nowhere}
+use Rattle.scan.specs.declared.Start.the-variants.{At, Nowhere}
 use Rattle.one_segment.specs.declared.One.{One}
 use Rattle.one_segment.specs.declared.One.the-variants.{Lost}
 use Rattle.scan.specs.Scans.{startAt}
-use Rattle.one_segment.specs.Ones.{followers, oneAs, Holds}
+use Rattle.one_segment.specs.Ones.{followers, oneAs, Holds, CleanAt, CleanNext}
 
 -- The steps that lose a message have numbers above 0
 
@@ -128,6 +129,69 @@ module _ (marked : Bool) (f k next p : ℕ) (S out : List ℕ) where
         go none = tt
         go (some x) = (refl, b, l)
 
+-- a clean segment at the end of one stands behind it, however that is judged
+pub clean-behind : (next p end : ℕ) (s m : List ℕ) → p ≤ end → (x : Start) → x ≡ At end → CleanAt next (lastOf m) s x → (j : Option Edit) (y : One) → y ≡ oneAs p (withEdit m (end - p) j) → CleanNext next s y
+clean-behind next p end s m h x e c j y q = subst (CleanNext next s) (sym q) (go j)
+  where
+    is : clean next (lastOf m) (drop end s) ≡ true
+    is = subst (CleanAt next (lastOf m) s) e c
+
+    go : (j : Option Edit) → CleanNext next s (oneAs p (withEdit m (end - p) j))
+    go none = tt
+    go (some d) = let v : p + (end - p) ≡ end = omega arith in rw v is
+
 -- the separator's number, sought behind the marker
 pub placed : (s : List ℕ) (p : ℕ) (marked : Bool) (j k d : ℕ) → d ≡ dataAt marked → j ≡ shiftIndex (separatorAt k (drop (p + d) s)) → j ≡ shiftIndex (separatorAt k (drop (dataAt marked) (drop p s)))
 placed s p marked j k d e h = rw (drop-drop (dataAt marked) p s, ← e) h
+
+-- Step 1: what the marker says of the message
+
+hit-marked : (marked : Bool) (S : List ℕ) (b : Bool) → b ≡ whole marked S → b ≡ false → marked ≡ true
+hit-marked true S b e h = refl
+hit-marked false S b e h = absurd (true≢false (sym e ∙ h))
+
+module _ (s : List ℕ) (p : ℕ) (marked : Bool) (k : ℕ) (b : Bool) (is : b ≡ whole marked (drop p s)) where
+  -- the marker is hit: its message is read behind it
+  pub got-hit : b ≡ false → got marked k (drop p s) ≡ gotHit k (drop p s) (separatorAt k (drop (p + 2) s))
+  unfolding got
+  got-hit h =
+      let m = hit-marked marked (drop p s) b is h in
+      let q : drop (dataAt marked) (drop p s) ≡ drop (p + 2) s = rw m (drop-drop 2 p s) in
+      rw (← is, h, q)
+
+  pub hit-index : b ≡ false → (j d : ℕ) → d ≡ dataAt marked → j ≡ shiftIndex (separatorAt k (drop (p + d) s)) → j ≡ shiftIndex (separatorAt k (drop (p + 2) s))
+  hit-index h j d e i =
+      let m = hit-marked marked (drop p s) b is h in
+      let q : d ≡ 2 = e ∙ rw m in
+      rw q at i
+
+  -- the marker is whole
+  pub got-whole : b ≡ true → (d : ℕ) → d ≡ dataAt marked → got marked k (drop p s) ≡ gotWhole k (drop (p + d) s) (separatorAt k (drop (p + d) s))
+  unfolding got
+  got-whole h d e = rw (← is, h, drop-drop (dataAt marked) p s, ← e)
+
+  -- and the message would end behind the strand
+  pub got-short : b ≡ true → (d : ℕ) → d ≡ dataAt marked → length s < p + d + k → got marked k (drop p s) ≡ R.Got.lost 6
+  got-short h d e l = got-whole h d e ∙ go (separatorAt k D) refl
+    where
+      D : List ℕ
+      D = drop (p + d) s
+
+      none-found : (x : Shift) → separatorAt k D ≡ some x → ⊥
+      none-found x q =
+          let i : shiftIndex (separatorAt k D) < 3 = rw q (few x) in
+          let r = found-room k (shiftIndex (separatorAt k D)) D i refl .1 in
+          omega (arith, r, moved-least (shiftOf (shiftIndex (separatorAt k D))) k, length-drop (p + d) s)
+        where
+          few : (x : Shift) → shiftIndex (some x) < 3
+          few level = omega arith
+          few early = omega arith
+          few late = omega arith
+
+      go : (o : Option Shift) → separatorAt k D ≡ o → gotWhole k D o ≡ R.Got.lost 6
+      go none q = without-short k (p + d) s (omega arith)
+      go (some x) q = absurd (none-found x q)
+
+pub answers-lost : (marked : Bool) (f k next p : ℕ) (S out : List ℕ) (n : ℕ) → got marked k S ≡ R.Got.lost n → Answers p S out (Lost n) (readOne marked f k (followers next) S S)
+unfolding readOne
+answers-lost marked f k next p S out n e = rw e (refl, tt)

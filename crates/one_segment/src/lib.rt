@@ -1,9 +1,16 @@
 // Steps 8 and 9, and with them the reading of one segment.
+mod standing;
+
+use crate::standing::segment_stands;
 use code::Edit;
 use compare::judge::Judged;
 use compare::judge::judge;
+use compare::tests::two_equal;
+use message::Got;
+use message::copy;
 use message::find_separator;
-use message::read_message;
+use message::read_hit;
+use message::read_whole;
 use message::shifted;
 use message::syndrome_at;
 use scan::Start;
@@ -12,22 +19,38 @@ use segment::Tail;
 use segment::last_of;
 use segment::put_segment;
 use segment::size_of;
+use segment::tail_given;
+use segment::tail_with;
 ghost use mathlib.Core.Path.{_≡_};
+ghost use mathlib.Core.Bool.{true};
 ghost use Prim.Native.Nat.{_+_, _-_, _<_, _≤_};
 ghost use lib.ListN.{length, take, drop};
 ghost use Rattle.code.specs.Symbols.{Below};
-ghost use Rattle.code.specs.Segment.{segment};
+ghost use Rattle.code.specs.Segment.{segment, lastOf};
 ghost use Rattle.code.specs.Edits.{judged};
-ghost use Rattle.code.specs.Reading.{separatorAt, moved, dataAt, settled, endOf, withEdit, readOne};
+ghost use Rattle.code.specs.Reading.{starts, whole, separatorAt, moved, dataAt, settled, endOf, withEdit, readOne};
+ghost use Rattle.code.specs.Reading as R;
 ghost use Rattle.segment.specs.Tails.{IsTail};
-ghost use Rattle.message.specs.Answers.{shiftIndex, shiftOf};
+ghost use Rattle.message.specs.Answers.{shiftIndex, shiftOf, IsGot};
 ghost use Rattle.scan.specs.Scans.{startAt};
-ghost use Rattle.one_segment.specs.Ones.{followers, oneAs, Holds};
+ghost use Rattle.one_segment.specs.Ones.{followers, oneAs, Holds, CleanAt, CleanNext};
 
 // What reading a segment answers: its edit, its end and the last symbol of its message; or the step that loses it.
 pub enum One {
     Read(Edit, usize, u8),
     Lost(u8),
+}
+
+// Where a segment ends, or that there is no end; and whether the next one is known to be clean.
+struct End {
+    start: Start,
+    clean: bool,
+}
+
+// What is read of a segment, and whether the next one is known to be clean.
+pub struct Seen {
+    pub one: One,
+    pub clean: bool,
 }
 
 // The symbols as they are.
@@ -73,21 +96,31 @@ fn end_of(
     tail: Tail,
     j: usize,
     next: usize,
-) -> Start
+) -> End
     requires { ⌜ Below 4 (now s) ⌝ }
     requires { ⌜ IsTail (now message) tail ⌝ }
     requires { ⌜ (p ≤ length (now s)) × (length (now s) ≤ 4096) × (2 ≤ length (now message)) × (length (now message) ≤ 4000) ⌝ }
     requires { ⌜ (next ≤ 4000) × (next ≡ 1 → ⊥) × (j ≡ shiftIndex (separatorAt (length (now message)) (drop (dataAt marked) (drop p (now s))))) ⌝ }
-    ensures { λ r. ⌜ r ≡ startAt p (endOf marked (length (now (message .entry))) (followers next) (drop p (now (s .entry))) (drop p (now (s .entry))) (now (message .entry))) ⌝ }
+    ensures { λ r. ⌜ r .start ≡ startAt p (endOf marked (length (now (message .entry))) (followers next) (drop p (now (s .entry))) (drop p (now (s .entry))) (now (message .entry))) ⌝ }
+    ensures { λ r. ⌜ (r .clean ≡ true → CleanAt next (lastOf (now (message .entry))) (now (s .entry)) (r .start)) ⌝ }
 {
     if next == 0 {
-        return Start::At(s.len());
+        return End {
+            start: Start::At(s.len()),
+            clean: false,
+        };
     }
     let k = message.len();
     if settles(s, p, marked, message, tail, j) {
-        return Start::At(behind_separator(p, marked, k, j) + tail.width);
+        return End {
+            start: Start::At(behind_separator(p, marked, k, j) + tail.width),
+            clean: false,
+        };
     }
-    find_clean(s, p, size_of(marked, k), next, 3, false, last_of(tail))
+    End {
+        start: find_clean(s, p, size_of(marked, k), next, 3, false, last_of(tail)),
+        clean: true,
+    }
 }
 
 // Step 9: the symbols from p to before `end` against the segment written anew.
@@ -107,23 +140,164 @@ fn compared(s: &[u8], p: usize, marked: bool, f: u8, message: &[u8], tail: Tail,
     One::Read(edit, end, last_of(tail))
 }
 
-// Steps 1 to 9 of the segment at p, whose message goes to `out`; f is the last symbol before it, `next` the length of the message after it, 0 for none.
-pub fn read_one(s: &[u8], p: usize, marked: bool, f: u8, next: usize, out: &mut [u8]) -> One
+// Step 1: the marker of the segment at p is whole.
+fn is_whole(s: &[u8], p: usize, marked: bool) -> bool
+    requires { ⌜ p < 65536 ⌝ }
+    ensures { λ r. ⌜ r ≡ whole marked (drop p (now (s .entry))) ⌝ }
+{
+    if marked {
+        return two_equal(s, p);
+    }
+    true
+}
+
+// Steps 8 and 9 of the segment at p, whose message was read or lost.
+fn finished(
+    s: &[u8],
+    p: usize,
+    marked: bool,
+    f: u8,
+    next: usize,
+    k: usize,
+    j: usize,
+    message: &[u8],
+    got: Got,
+) -> Seen
+    requires { ⌜ Below 4 (now s) ⌝ }
+    requires { ⌜ (p ≤ length (now s)) × (length (now s) ≤ 4096) × (2 ≤ k) × (k ≤ 64) ⌝ }
+    requires { ⌜ (next ≤ 4000) × (next ≡ 1 → ⊥) × (f < 4) ⌝ }
+    requires { ⌜ (j ≡ shiftIndex (separatorAt k (drop (dataAt marked) (drop p (now s))))) × IsGot (R.got marked k (drop p (now s))) (now message) got ⌝ }
+    ensures { λ r. ⌜ r .one ≡ oneAs p (readOne marked f k (followers next) (drop p (now (s .entry))) (drop p (now (s .entry)))) ⌝ }
+    ensures { λ _. ⌜ Holds (length (drop p (now (s .entry)))) (readOne marked f k (followers next) (drop p (now (s .entry))) (drop p (now (s .entry)))) (now (message .entry)) ⌝ }
+    ensures { λ r. ⌜ (r .clean ≡ true → CleanNext next (now (s .entry)) (r .one)) ⌝ }
+{
+    let step = got.step;
+    if step != 0 {
+        return Seen {
+            one: One::Lost(step),
+            clean: false,
+        };
+    }
+    let tail = got.tail;
+    let e = end_of(s, p, marked, message, tail, j, next);
+    let clean = e.clean;
+    let start = e.start;
+    let Start::At(end) = start else {
+        return Seen {
+            one: One::Lost(8),
+            clean: false,
+        };
+    };
+    Seen {
+        one: compared(s, p, marked, f, message, tail, end),
+        clean,
+    }
+}
+
+// A segment with a marker that is known to be clean.
+fn read_clean(s: &[u8], p: usize, f: u8, next: usize, out: &mut [u8]) -> One
+    requires { ⌜ Below 4 (now s) ⌝ }
+    requires { ⌜ (p ≤ length (now s)) × (length (now s) ≤ 4096) × (2 ≤ length (now out)) × (length (now out) ≤ 64) × (f < 4) ⌝ }
+    requires { ⌜ R.clean (length (now out)) f (drop p (now s)) ≡ true ⌝ }
+    ensures { λ r. ⌜ r ≡ oneAs p (readOne true f (length (now (out .entry))) (followers next) (drop p (now (s .entry))) (drop p (now (s .entry)))) ⌝ }
+    ensures { λ _. ⌜ Holds (length (drop p (now (s .entry)))) (readOne true f (length (now (out .entry))) (followers next) (drop p (now (s .entry))) (drop p (now (s .entry)))) (now (out .exit)) ⌝ }
+{
+    let k = out.len();
+    let d = p + 2;
+    let to = d + k;
+    let end = to + (4 + layers::width_of(k));
+    copy(s, d, out);
+    if next != 0 {
+        return One::Read(Edit::None, end, s[end - 1]);
+    }
+    let tail = tail_given(out, &s[to + 4..end]);
+    compared(s, p, true, f, out, tail, s.len())
+}
+
+// The segment of the k symbols at d stands at p, and another is to follow it or the strand ends with it.
+fn stands_alone(
+    s: &[u8],
+    p: usize,
+    marked: bool,
+    f: u8,
+    d: usize,
+    k: usize,
+    tail: Tail,
+    next: usize,
+) -> bool
+    requires { ⌜ (f < 4) × (2 ≤ k) × (k ≤ 4096) × (d ≡ p + dataAt marked) × (d + k ≤ length (now s)) × (length (now s) ≤ 4096) ⌝ }
+    requires { ⌜ IsTail (take k (drop (dataAt marked) (drop p (now s)))) tail ⌝ }
+    ensures { λ r. ⌜ (r ≡ true → (starts (segment marked f (take k (drop (dataAt marked) (drop p (now (s .entry)))))) (drop p (now (s .entry))) ≡ true) × (next ≡ 0 → d + k + (4 + tail .width) ≡ length (now (s .entry)))) ⌝ }
+{
+    if !segment_stands(s, p, marked, f, d, k, tail) {
+        return false;
+    }
+    if next != 0 {
+        return true;
+    }
+    d + k + (4 + tail.width) == s.len()
+}
+
+// Steps 1 to 9 of a segment of which nothing is known.
+fn read_one(s: &[u8], p: usize, marked: bool, f: u8, next: usize, out: &mut [u8]) -> Seen
     requires { ⌜ Below 4 (now s) ⌝ }
     requires { ⌜ (p ≤ length (now s)) × (length (now s) ≤ 4096) × (2 ≤ length (now out)) × (length (now out) ≤ 64) ⌝ }
     requires { ⌜ (next ≤ 4000) × (next ≡ 1 → ⊥) × (f < 4) ⌝ }
-    ensures { λ r. ⌜ r ≡ oneAs p (readOne marked f (length (now (out .entry))) (followers next) (drop p (now (s .entry))) (drop p (now (s .entry)))) ⌝ }
+    ensures { λ r. ⌜ r .one ≡ oneAs p (readOne marked f (length (now (out .entry))) (followers next) (drop p (now (s .entry))) (drop p (now (s .entry)))) ⌝ }
     ensures { λ _. ⌜ Holds (length (drop p (now (s .entry)))) (readOne marked f (length (now (out .entry))) (followers next) (drop p (now (s .entry))) (drop p (now (s .entry)))) (now (out .exit)) ⌝ }
+    ensures { λ r. ⌜ (r .clean ≡ true → CleanNext next (now (s .entry)) (r .one)) ⌝ }
 {
-    let j = find_separator(s, p + data_at(marked), out.len());
-    let got = read_message(s, p, marked, j, out);
-    let step = got.step;
-    if step != 0 {
-        return One::Lost(step);
+    let k = out.len();
+    let d = p + data_at(marked);
+    if !is_whole(s, p, marked) {
+        let j = find_separator(s, d, k);
+        let got = read_hit(s, p, j, out);
+        return finished(s, p, marked, f, next, k, j, out, got);
     }
-    let tail = got.tail;
-    let Start::At(end) = end_of(s, p, marked, out, tail, j, next) else {
-        return One::Lost(8);
-    };
-    compared(s, p, marked, f, out, tail, end)
+    let to = d + k;
+    if s.len() < to {
+        return Seen {
+            one: One::Lost(6),
+            clean: false,
+        };
+    }
+    let sums = layers::sums(&s[d..to]);
+    let tail = tail_with(&s[d..to], sums);
+    if stands_alone(s, p, marked, f, d, k, tail, next) {
+        copy(s, d, out);
+        return Seen {
+            one: One::Read(Edit::None, to + (4 + tail.width), last_of(tail)),
+            clean: false,
+        };
+    }
+    let j = find_separator(s, d, k);
+    let got = read_whole(s, d, j, sums.places, tail, out);
+    finished(s, p, marked, f, next, k, j, out, got)
+}
+
+// Steps 1 to 9 of the segment at p, whose message goes to `out`; f is the last symbol before it, `next` the length of the message after it, 0 for none; it may be known to be clean.
+pub fn read_segment(
+    s: &[u8],
+    p: usize,
+    marked: bool,
+    f: u8,
+    next: usize,
+    clean: bool,
+    out: &mut [u8],
+) -> Seen
+    requires { ⌜ Below 4 (now s) ⌝ }
+    requires { ⌜ (p ≤ length (now s)) × (length (now s) ≤ 4096) × (2 ≤ length (now out)) × (length (now out) ≤ 64) ⌝ }
+    requires { ⌜ (next ≤ 4000) × (next ≡ 1 → ⊥) × (f < 4) ⌝ }
+    requires { ⌜ (clean ≡ true → (marked ≡ true) × (R.clean (length (now out)) f (drop p (now s)) ≡ true)) ⌝ }
+    ensures { λ r. ⌜ r .one ≡ oneAs p (readOne marked f (length (now (out .entry))) (followers next) (drop p (now (s .entry))) (drop p (now (s .entry)))) ⌝ }
+    ensures { λ _. ⌜ Holds (length (drop p (now (s .entry)))) (readOne marked f (length (now (out .entry))) (followers next) (drop p (now (s .entry))) (drop p (now (s .entry)))) (now (out .exit)) ⌝ }
+    ensures { λ r. ⌜ (r .clean ≡ true → CleanNext next (now (s .entry)) (r .one)) ⌝ }
+{
+    if clean {
+        return Seen {
+            one: read_clean(s, p, f, next, out),
+            clean: false,
+        };
+    }
+    read_one(s, p, marked, f, next, out)
 }

@@ -1,6 +1,6 @@
 -- The walk over a layout: what stands, followed by what is to come, is the whole.
 use mathlib.Core.Path.{_≡_, refl, sym, ap, _∙_}
-use mathlib.Core.Bool.{Bool, true, false, not}
+use mathlib.Core.Bool.{Bool, true, false, not, false≢true}
 use mathlib.Core.List.{List, [], _∷_, _++_, append-assoc, append-nil}
 use mathlib.Core.Option.{Option, some, none}
 use Prim.Native.Nat.{ℕ, zero, suc, _+_, _≤_, _<_}
@@ -12,7 +12,7 @@ use lib.ListN.{length, getD, take, drop, set, length-drop, length-set, length-re
 use lib.Seq.{drop-cons, take-all, take-suc-set, length-take-le}
 use Rattle.code.specs.Lists.{putAt, take-put, length-put}
 use Rattle.code.specs.Segment.{size}
-use Rattle.code.specs.Reading.{readOne}
+use Rattle.code.specs.Reading.{clean, readOne}
 use Rattle.code.specs.Reading as R
 use Rattle.code.specs.Layout.{sum, joined}
 use Rattle.code.specs.Strands.{Outcome, unfound, scan, reading, outcomes, messagesOf, marksOf, markOf}
@@ -21,7 +21,7 @@ use Rattle.reading.specs.declared.next.Next.{Next}
 use Rattle.one_segment.specs.Ones.{followers}
 use Rattle.reading.specs.Steps.{Step, afterLost, afterOne, stepOf, going}
 use Rattle.reading.specs.StepsLaws.{nextOf, going-step}
-use Rattle.reading.specs.Nexts.{IsNext}
+use Rattle.reading.specs.Nexts.{IsNext, Follows}
 use Rattle.reading.specs.Walks.{Within, done, more, endsFrom}
 
 -- Lengths within the limits
@@ -105,6 +105,7 @@ module _ (ks s : List ℕ) where
     pub start : r .start ≤ length s
     pub small : r .f < 4
     pub unfound : r .found ≡ false → r .start ≡ length s
+    pub known : r .clean ≡ true → (0 < i) × (clean (nextOf (drop i ks)) (r .f) (drop (r .start) s) ≡ true)
     pub messages-are : take at symbols ++ messagesOf (rest i r) ≡ messagesOf (outcomes ks s)
     pub marks-are : take i marks ++ marksOf (rest i r) ≡ marksOf (outcomes ks s)
     pub ends-are : take i ends ++ endsFrom (r .start) (rest i r) ≡ endsFrom 0 (outcomes ks s)
@@ -113,8 +114,8 @@ module _ (ks s : List ℕ) where
   unfolding going
   all-left r u v w = rw (u, v, w)
 
-  pub walk-begin : (symbols marks ends : List ℕ) (r : Next) → length symbols ≡ sum ks → length marks ≡ length ks → length ends ≡ length ks → r .found ≡ true → r .start ≡ 0 → r .f ≡ 0 → Walk symbols marks ends r 0 0
-  walk-begin symbols marks ends r a b c u v w =
+  pub walk-begin : (symbols marks ends : List ℕ) (r : Next) → length symbols ≡ sum ks → length marks ≡ length ks → length ends ≡ length ks → r .found ≡ true → r .start ≡ 0 → r .f ≡ 0 → r .clean ≡ false → Walk symbols marks ends r 0 0
+  walk-begin symbols marks ends r a b c u v w x =
       let q : rest 0 r ≡ outcomes ks s = all-left r u v w in
       record {
         inside = omega arith;
@@ -125,6 +126,7 @@ module _ (ks s : List ℕ) where
         start = omega (arith, v);
         small = omega (arith, w);
         unfound = λ e. absurd (let g : true ≡ false = sym u ∙ e in let z : _≡_ {A = ℕ} 0 1 = cc in omega arith);
+        known = λ e. absurd (false≢true (sym x ∙ e));
         messages-are = ap messagesOf q;
         marks-are = ap marksOf q;
         ends-are = ap (endsFrom (r .start)) q ∙ ap (λ (x : ℕ). endsFrom x (outcomes ks s)) v;
@@ -146,9 +148,9 @@ module _ (ks s : List ℕ) where
     unfolding sum
     room = omega (arith, w .behind, ap sum here)
 
-    pub walk-turn : IsNext (length s) t r′ → (symbols′ : List ℕ) (mark : ℕ) → symbols′ ≡ putAt symbols at (t .outcome .message) → mark ≡ markOf (r′ .verdict) → Walk symbols′ (set marks i mark) (set ends i (r′ .start)) r′ (at + k) (i + 1)
+    pub walk-turn : IsNext (length s) t r′ → Follows s (nextOf (drop (i + 1) ks)) r′ → (symbols′ : List ℕ) (mark : ℕ) → symbols′ ≡ putAt symbols at (t .outcome .message) → mark ≡ markOf (r′ .verdict) → Walk symbols′ (set marks i mark) (set ends i (r′ .start)) r′ (at + k) (i + 1)
     unfolding sum joined endsFrom
-    walk-turn n symbols′ mark p q =
+    walk-turn n follows symbols′ mark p q =
         let m = t .outcome .message in
         let l = step-length (not (eqb i 0)) (r .f) k (nextOf (drop (i + 1) ks)) (r .start) s (r .found) (omega arith) in
         let c = split n in
@@ -168,6 +170,7 @@ module _ (ks s : List ℕ) where
           start = n .inside;
           small = n .small;
           unfound = λ x. n .start ∙ step-unfound (not (eqb i 0)) (r .f) k (nextOf (drop (i + 1) ks)) (r .start) s (r .found) (sym (n .found) ∙ x);
+          known = λ x. (omega arith, follows x);
           messages-are = rw (front, append-assoc) (rw c at (w .messages-are));
           marks-are = rw (more-marks, append-assoc, verdict) (rw c at (w .marks-are));
           ends-are = rw (more-ends, append-assoc) (ap (λ (x : List ℕ). take i ends ++ x) (sym next-ends) ∙ w .ends-are);

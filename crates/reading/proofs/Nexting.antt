@@ -1,5 +1,5 @@
 -- A segment and the start of the next: what is answered in each case.
-use mathlib.Core.Path.{_≡_, refl, sym, ap, _∙_}
+use mathlib.Core.Path.{_≡_, refl, sym, ap, subst, _∙_}
 use mathlib.Core.Bool.{Bool, true, false}
 use mathlib.Core.List.{List}
 use mathlib.Core.Option.{Option, some, none}
@@ -8,7 +8,7 @@ use native.Mathlib.Omega.{arith}
 use lib.ListN.{length, drop, replicate, length-drop}
 use Rattle.code.specs.Segment.{lastOf, size}
 use Rattle.code.specs.SegmentLaws.{last-below}
-use Rattle.code.specs.Reading.{readOne}
+use Rattle.code.specs.Reading.{clean, readOne}
 use Rattle.code.specs.Reading as R
 use Rattle.code.specs.Strands.{scan}
 use Rattle.code.specs.declared.Edit.{Edit}
@@ -16,7 +16,7 @@ use Rattle.code.specs.declared.Verdict.the-variants as W
 use Rattle.one_segment.specs.declared.One.{One}
 use Rattle.one_segment.specs.declared.One.the-variants.{Read, Lost}
 use Rattle.reading.specs.declared.next.Next.{Next}
-use Rattle.one_segment.specs.Ones.{followers, oneAs, Holds}
+use Rattle.one_segment.specs.Ones.{followers, oneAs, Holds, CleanNext}
 use Rattle.reading.specs.Steps.{Step, afterLost, afterOne, stepOf}
 use Rattle.reading.specs.Nexts.{IsNext}
 
@@ -64,3 +64,7 @@ module _ (marked : Bool) (f k next p : ℕ) (s out : List ℕ) (r : Next) where
         go (R.One.lost i) u =
             let x : i ≡ step = cc in
             rw x (n, o ∙ sym (lost-message k p s step (scan (size marked k) (followers next) S S)))
+
+-- the next one is clean as the segment's reading says
+pub read-follows : (s : List ℕ) (next : ℕ) (y : One) (e : Edit) (end last : ℕ) (known : Bool) → y ≡ Read e end last → (known ≡ true → CleanNext next s y) → known ≡ true → clean next last (drop end s) ≡ true
+read-follows s next y e end last known q h x = subst (CleanNext next s) q (h x)

@@ -6,13 +6,14 @@ use mathlib.Core.Option.{Option, none}
 use Prim.Native.Nat.{ℕ, zero, suc, _+_, _-_, _≤_, _<_}
 use native.Mathlib.Omega.{arith}
 use lib.ListN.{length, getD, take, drop, replicate, length-drop}
-use lib.Seq.{getD-drop}
+use lib.Seq.{getD-drop, drop-drop}
 use Rattle.code.specs.Symbols.{Below}
+use Rattle.code.specs.Reading.{clean}
 use Rattle.code.specs.Strands.{above, pairs, scan}
 use Rattle.code.specs.declared.Verdict.the-variants.{Lost}
 use Rattle.scan.specs.Scans.{firstClean, letterBefore}
 use Rattle.scan.specs.ScansLaws.{scan-first}
-use Rattle.scan.proofs.Starts.{Ends, first-inside, first-above}
+use Rattle.scan.proofs.Starts.{Ends, clean-first, first-inside, first-above}
 use Rattle.one_segment.specs.Ones.{followers}
 use Rattle.reading.specs.declared.next.Next.{Next}
 use Rattle.reading.specs.Steps.{afterLost}
@@ -67,3 +68,16 @@ module _ (s : List ℕ) (p : ℕ) where
       let pos = first-above next (letterBefore true 0 S) S (take 17 (n ∷ pairs n 1 8)) o (h .is) in
       let most = first-inside next (letterBefore true 0 S) S (above (take 17 (n ∷ pairs n 1 8))) o (h .is) in
       (omega (arith, pos), omega (arith, most, pos, length-drop p s, h .behind))
+
+  -- a start that was found is clean
+  pub start-follows : (n next at : ℕ) → Ends p at (first n next) → clean next (getD s (at - 1) 0) (drop at s) ≡ true
+  unfolding letterBefore
+  start-follows n next at h =
+      let o = at - p in
+      let os = above (take 17 (n ∷ pairs n 1 8)) in
+      let pos = first-above next (letterBefore true 0 S) S (take 17 (n ∷ pairs n 1 8)) o (h .is) in
+      let i : p + (o - 1) ≡ at - 1 = omega (arith, h .behind, pos) in
+      let v : p + o ≡ at = omega (arith, h .behind) in
+      let ef : getD S (o - 1) 0 ≡ getD s (at - 1) 0 = getD-drop p s (o - 1) 0 ∙ ap (λ (j : ℕ). getD s j 0) i in
+      let es : drop o S ≡ drop at s = drop-drop o p s ∙ ap (λ (j : ℕ). drop j s) v in
+      (λ j. clean next (sym ef j) (sym es j)) ∙ clean-first next (letterBefore true 0 S) S os o (h .is)

@@ -3,15 +3,17 @@ use crate::next::Next;
 use crate::next::read_next;
 use code::Verdict;
 ghost use mathlib.Core.Path.{_≡_};
+ghost use mathlib.Core.Bool.{true};
 ghost use Prim.Native.Nat.{_+_, _<_, _≤_};
 ghost use lib.ListN.{length, drop};
 ghost use Rattle.code.specs.Lists.{putAt};
 ghost use Rattle.code.specs.Symbols.{Below};
 ghost use Rattle.code.specs.Layout.{sum};
+ghost use Rattle.code.specs.Reading as R;
 ghost use Rattle.code.specs.Strands.{markOf, outcomes, messagesOf, marksOf};
 ghost use Rattle.reading.specs.Steps.{stepOf};
 ghost use Rattle.reading.specs.StepsLaws.{nextOf};
-ghost use Rattle.reading.specs.Nexts.{IsNext};
+ghost use Rattle.reading.specs.Nexts.{IsNext, Follows};
 ghost use Rattle.reading.specs.Walks.{Within, endsFrom};
 
 // The mark of a verdict.
@@ -43,8 +45,10 @@ fn read_into(
     requires { ⌜ Below 4 (now s) ⌝ }
     requires { ⌜ (prior .start ≤ length (now s)) × (length (now s) ≤ 4096) × (2 ≤ k) × (k ≤ 64) × (at + k ≤ length (now symbols)) ⌝ }
     requires { ⌜ (next ≤ 4000) × (next ≡ 1 → ⊥) × (prior .f < 4) ⌝ }
+    requires { ⌜ (prior .clean ≡ true → (marked ≡ true) × (R.clean k (prior .f) (drop (prior .start) (now s)) ≡ true)) ⌝ }
     ensures { λ r. ⌜ IsNext (length (now (s .entry))) (stepOf (prior .found) marked (prior .f) k next (prior .start) (now (s .entry))) r ⌝ }
     ensures { λ _. ⌜ now (symbols .exit) ≡ putAt (now (symbols .entry)) at (stepOf (prior .found) marked (prior .f) k next (prior .start) (now (s .entry)) .outcome .message) ⌝ }
+    ensures { λ r. ⌜ Follows (now (s .entry)) next r ⌝ }
 {
     let to = at + k;
     read_next(
@@ -54,6 +58,7 @@ fn read_into(
         marked,
         prior.f,
         next,
+        prior.clean,
         &mut symbols[at..to],
     )
 }
@@ -90,6 +95,7 @@ pub fn read_layout(
         found: true,
         start: 0,
         f: 0,
+        clean: false,
     };
     let mut at = 0;
     let mut i = 0;

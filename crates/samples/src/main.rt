@@ -78,7 +78,8 @@ fn width(k: usize) {
 fn syndromes(text: &[u8], message: &[u8]) {
     if 0 < message.len() {
         if message.len() < 65536 {
-            let s = layers::syndromes(message);
+            let sums = layers::sums(message);
+            let s = layers::syndromes(message, sums.places);
             word(b"message ");
             word(text);
             word(b" syndromes");

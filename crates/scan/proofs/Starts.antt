@@ -27,7 +27,7 @@ size-room true k h l = (omega (arith, width-two k h), omega (arith, width-least 
 size-room false k h l = (omega (arith, width-two k h), omega (arith, width-least k .least 16 (omega arith)))
 
 -- a start that is found is clean
-clean-first : (k : ℕ) (g : ℕ → ℕ) (raw os : List ℕ) (o : ℕ) → firstClean k g raw os ≡ some o → clean k (g o) (drop o raw) ≡ true
+pub clean-first : (k : ℕ) (g : ℕ → ℕ) (raw os : List ℕ) (o : ℕ) → firstClean k g raw os ≡ some o → clean k (g o) (drop o raw) ≡ true
 unfolding firstClean
 clean-first k g raw [] o e = absurd (let z : _≡_ {A = ℕ} 0 1 = cc in omega arith)
 clean-first k g raw (x ∷ os) o e = go (clean k (g x) (drop x raw)) refl e (clean-first k g raw os o)
@@ -36,7 +36,7 @@ clean-first k g raw (x ∷ os) o e = go (clean k (g x) (drop x raw)) refl e (cle
     go true t e h = let q : x ≡ o = cc in rw (← q) t
     go false t e h = h e
 
-clean-inside : (k f : ℕ) (s : List ℕ) (o : ℕ) → clean k f (drop o s) ≡ true → o + size true k ≤ length s
+pub clean-inside : (k f : ℕ) (s : List ℕ) (o : ℕ) → clean k f (drop o s) ≡ true → o + size true k ≤ length s
 clean-inside k f s o e = go (decLe (o + size true k) (length s))
   where
     go : Dec (o + size true k ≤ length s) → o + size true k ≤ length s

@@ -24,7 +24,7 @@ use Rattle.scan.specs.Scans.{firstClean, letterBefore}
 -- The clean test by parts
 
 -- a list starts with its own front; what else is demanded stands behind it
-starts-behind : (k : ℕ) (l t : List ℕ) → starts (take k l ++ t) l ≡ starts t (drop k l)
+pub starts-behind : (k : ℕ) (l t : List ℕ) → starts (take k l ++ t) l ≡ starts t (drop k l)
 unfolding starts
 starts-behind zero l t = refl
 starts-behind (suc k) [] t = refl

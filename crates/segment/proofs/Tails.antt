@@ -1,5 +1,6 @@
 -- What the functions on tails and segments use.
 --   is-tail        the parts that make a tail
+--   paired-symbols the syndromes, paired, are the syndrome symbols
 --   tail-symbols   a message and its tail are the block
 --   tail-below     a tail's symbols are symbols
 --   tail-last      the last symbol of a segment
@@ -25,14 +26,17 @@ use Rattle.segment.specs.declared.Tail.{Tail}
 use Rattle.segment.specs.Tails.{mark, IsTail, tailOf}
 use Rattle.segment.specs.Spelling.{spelled, length-spelled, spelled-append}
 
-pub is-tail : (m : List ℕ) (s : Layers) (c p t : ℕ) (a : List ℕ) → 2 ≤ length m → c ≡ check m → t ≡ width (length m) → s ≡ both syndrome m → take t a ≡ pair (bits t (s .high)) (bits t (s .low)) → length a ≡ 16 → p ≡ sep c (getD a 0 0) (getD a 1 0) → IsTail m (record { check = c; separator = p; width = t; syndrome = a })
-unfolding separator syndromeOf
-is-tail m s c p t a some ec et es ea room ep =
+pub is-tail : (m : List ℕ) (c p t : ℕ) (a : List ℕ) → 2 ≤ length m → c ≡ check m → t ≡ width (length m) → take t a ≡ syndromeOf m → length a ≡ 16 → p ≡ sep c (getD a 0 0) (getD a 1 0) → IsTail m (record { check = c; separator = p; width = t; syndrome = a })
+unfolding separator
+is-tail m c p t a some ec et whole room ep =
     let l = width-two (length m) some in
-    let whole : take t a ≡ syndromeOf m = ea ∙ rw (es, et) in
     let first : getD a 0 0 ≡ getD (syndromeOf m) 0 0 = sym (getD-take t a 0 0 (omega arith)) ∙ rw whole in
     let second : getD a 1 0 ≡ getD (syndromeOf m) 1 0 = sym (getD-take t a 1 0 (omega arith)) ∙ rw whole in
     record { check = ec; separator = ep ∙ rw (ec, first, second); width = et; symbols = whole; room = room }
+
+pub paired-symbols : (m : List ℕ) (s : Layers) (t : ℕ) (a : List ℕ) → t ≡ width (length m) → s ≡ both syndrome m → take t a ≡ pair (bits t (s .high)) (bits t (s .low)) → take t a ≡ syndromeOf m
+unfolding syndromeOf
+paired-symbols m s t a et es ea = ea ∙ rw (es, et)
 
 module _ (m : List ℕ) (t : Tail) (e : IsTail m t) where
   pub tail-symbols : m ++ tailOf t ≡ block m

@@ -1,11 +1,13 @@
 // Writing one segment: its marker, the message, and what follows the message.
+use layers::Summed;
 ghost use mathlib.Core.Path.{_≡_};
 ghost use Prim.Native.Nat.{_+_, _-_, _<_, _≤_};
 ghost use lib.ListN.{length, getD, take};
 ghost use Rattle.code.specs.Lists.{putAt};
 ghost use Rattle.code.specs.Symbols.{Below};
 ghost use Rattle.code.specs.Layers.{pair, bits};
-ghost use Rattle.code.specs.Segment.{check, either, sep, segment, lastOf, size};
+ghost use Rattle.code.specs.Segment.{check, either, sep, syndromeOf, segment, lastOf, size};
+ghost use Rattle.layers.specs.Answers.{sumsOf};
 ghost use Rattle.segment.specs.Tails.{mark, IsTail, tailOf};
 ghost use Rattle.segment.specs.Spelling.{spelled};
 
@@ -75,20 +77,59 @@ fn paired(high: usize, low: usize, t: usize) -> [u8; 16]
     symbols
 }
 
-// What follows a message.
-pub fn tail_of(message: &[u8]) -> Tail
-    requires { ⌜ (2 ≤ length (now message)) × (length (now message) ≤ 4096) ⌝ }
+// What follows a message whose check and sums of places are known.
+pub fn tail_with(message: &[u8], sums: Summed) -> Tail
+    requires { ⌜ (2 ≤ length (now message)) × (length (now message) ≤ 4096) × (sums ≡ sumsOf (now message)) ⌝ }
     ensures { λ r. ⌜ IsTail (now (message .entry)) r ⌝ }
 {
-    let check = check_of(message);
+    let check = sums.check;
     let width = layers::width_of(message.len());
-    let s = layers::syndromes(message);
+    let s = layers::syndromes(message, sums.places);
     let syndrome = paired(s.high, s.low, width);
     let separator = sep_of(check, syndrome[0], syndrome[1]);
     Tail {
         check,
         separator,
         width,
+        syndrome,
+    }
+}
+
+// What follows a message.
+pub fn tail_of(message: &[u8]) -> Tail
+    requires { ⌜ (2 ≤ length (now message)) × (length (now message) ≤ 4096) ⌝ }
+    ensures { λ r. ⌜ IsTail (now (message .entry)) r ⌝ }
+{
+    let sums = layers::sums(message);
+    tail_with(message, sums)
+}
+
+// A block of symbols at the front of an array.
+fn held(block: &[u8]) -> [u8; 16]
+    requires { ⌜ length (now block) ≤ 16 ⌝ }
+    ensures { λ r. ⌜ (take (length (now (block .entry))) r ≡ now (block .entry)) × (length r ≡ 16) ⌝ }
+{
+    let mut symbols = [0u8; 16];
+    let mut i = 0;
+    while i < block.len() {
+        symbols[i] = block[i];
+        i += 1;
+    }
+    symbols
+}
+
+// What follows a message whose syndrome symbols are known.
+pub fn tail_given(message: &[u8], written: &[u8]) -> Tail
+    requires { ⌜ (2 ≤ length (now message)) × (length (now message) ≤ 4096) × (now written ≡ syndromeOf (now message)) ⌝ }
+    ensures { λ r. ⌜ IsTail (now (message .entry)) r ⌝ }
+{
+    let check = check_of(message);
+    let syndrome = held(written);
+    let separator = sep_of(check, syndrome[0], syndrome[1]);
+    Tail {
+        check,
+        separator,
+        width: written.len(),
         syndrome,
     }
 }

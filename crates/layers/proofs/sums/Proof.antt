@@ -3,7 +3,7 @@ use Prim.Native.Nat.{suc, _-_, _≤_}
 use native.Mathlib.Omega.{arith}
 use borrow.Author.Needs.{needs}
 use lib.ListN.{length}
-use Rattle.layers.proofs.Running.{Running, begin, turn, few, end}
+use Rattle.layers.proofs.Running.{Running, begin, turn, few, summed}
 use Rattle.layers.proofs.sums.Statement.{statement}
 use Rattle.layers.proofs.sums.Tie as tie
 
@@ -39,9 +39,14 @@ sums-spec =
       rw (c .before .digit-of .ensures .0) (turn 1 s (l .i) (l .i - 1) (l .high-ones) (l .high) e (omega arith) (l .inv .1)),
       rw (c .digit-of2 .ensures .0) (turn 0 s (l .i) (l .i - 1) (l .low-ones) (l .low) e (omega arith) (l .inv .2)),
     ))
+    (λ c. let l = c .before .loop in let f = few 1 (c .before .before .before .args .symbols .now) (l .i) (l .high-ones) (l .high) (c .before .before .before .pre) (l .inv .1) in omega arith)
     (λ c.
     let l = c .before .loop in
     let s = c .before .before .before .args .symbols .now in
-    let h = end 1 s (l .i) (l .high-ones) (l .high) (omega arith) (l .inv .1) in
-    let k = end 0 s (l .i) (l .low-ones) (l .low) (omega arith) (l .inv .2) in
-    λ j. record { high = h j; low = k j }))
+    let f = few 1 s (l .i) (l .high-ones) (l .high) (c .before .before .before .pre) (l .inv .1) in
+    let g = few 0 s (l .i) (l .low-ones) (l .low) (c .before .before .before .pre) (l .inv .2) in
+    omega arith)
+    (λ c. omega arith)
+    (λ c.
+    let l = c .before .loop in
+    summed (c .before .before .before .args .symbols .now) (l .i) (l .high-ones) (l .high) (l .low-ones) (l .low) (omega arith) (l .inv .1) (l .inv .2)))

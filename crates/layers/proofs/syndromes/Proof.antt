@@ -14,11 +14,9 @@ unfolding syndrome
 syndromes-spec =
     tie.close
     (tie.spec
-    (λ c κs. search needs)
     (λ c. search needs)
     (λ c. search needs)
     (λ c. search needs)
     (λ c.
-    let m = c .before .before .before .before .args .symbols .now in
-    let e = c .before .before .sums .ensures in
-    rw (length-layer 1 m, length-layer 0 m) (ap (λ (s : Layers). (let n = 2 * length m in record { high = s .high % n; low = s .low % n })) e)))
+    let m = c .before .before .args .symbols .now in
+    rw (length-layer 1 m, length-layer 0 m) (ap (λ (s : Layers). (let n = 2 * length m in record { high = s .high % n; low = s .low % n })) (c .before .before .pre .2))))

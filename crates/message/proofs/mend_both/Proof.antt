@@ -8,26 +8,20 @@ use Rattle.code.specs.Symbols.{Below}
 use Rattle.code.specs.Layers.{layer, number, pair}
 use Rattle.code.specs.LayersLaws.{pair-below}
 use Rattle.code.specs.Repair.{repair, mendedWord}
-use Rattle.layers.specs.declared.Layers.{Layers}
+use Rattle.layers.specs.Answers.{highs, lows}
 use Rattle.segment.specs.Tails.{IsTail}
-use Rattle.message.proofs.Mends.{lost-high, lost-low, read-both, gets-none, gets-word, word-length}
+use Rattle.message.proofs.Mends.{lost-high, lost-low, read-both, gets-none, gets-word, word-length, mended-given}
+use Rattle.message.proofs.Steps.{width-most}
 use Rattle.message.proofs.mend_both.Statement.{statement}
 use Rattle.message.proofs.mend_both.Tie as tie
 
-highs : {x y : Layers} → x ≡ y → x .high ≡ y .high
-highs e = ap (λ (l : Layers). l .high) e
-
-lows : {x y : Layers} → x ≡ y → x .low ≡ y .low
-lows e = ap (λ (l : Layers). l .low) e
-
-sums-requires : tie.Need-sums-requires
-sums-requires c κs = search needs
-
 numbers-requires : tie.Need-numbers-requires
-numbers-requires c κs = search needs
+numbers-requires c κs =
+    let b = c .before .before .before in
+    omega (arith, b .pre .0 .2, width-most (length (b .args .out .now)) (omega arith))
 
 mend-requires : tie.Need-mend-requires
-mend-requires c κs = (omega arith, omega arith, omega arith, highs (c .before .sums .ensures))
+mend-requires c κs = (omega arith, omega arith, omega arith, highs (c .before .before .before .before .pre .1 .0 .2))
 
 enum-known-high : tie.Need-enum-known-high
 enum-known-high c = search needs
@@ -40,13 +34,15 @@ lost-in-requires c κs = search needs
 
 returns : tie.Need-returns
 returns c =
-    let a = c .before .before .before .before .before .before .before .before .before .args in
+    let a = c .before .before .before .before .before .before .before .before .args in
     let x = a .received .now in
     let w = a .written .now in
-    lost-high (a .link) x w _ (c .lost-in .result) (gets-none (a .link) (layer 1 x) (number (layer 1 w)) (c .before .before .before .before .numbers .result .high) (c .before .before .before .mend .result) (c .before .before .before .mend .ensures) (highs (c .before .before .before .before .numbers .ensures)) (c .before .enum-told .given .1)) (c .lost-in .ensures)
+    let n = c .before .before .before .before .numbers in
+    let m = c .before .before .before .mend in
+    lost-high (a .link) x w _ (c .lost-in .result) (gets-none (a .link) (layer 1 x) (number (layer 1 w)) (n .result .high) (m .result) (m .ensures) (highs (n .ensures)) (c .before .enum-told .given .1)) (c .lost-in .ensures)
 
 mend-requires-2 : tie.Need-mend-requires-2
-mend-requires-2 c κs = (omega arith, omega arith, omega arith, lows (c .before .before .before .before .before .sums .ensures))
+mend-requires-2 c κs = (omega arith, omega arith, omega arith, lows (c .before .before .before .before .before .before .before .before .pre .1 .0 .2))
 
 enum-known-low : tie.Need-enum-known-low
 enum-known-low c = search needs
@@ -59,41 +55,59 @@ lost-in-requires-2 c κs = search needs
 
 returns-2 : tie.Need-returns-2
 returns-2 c =
-    let a = c .before .before .before .before .before .before .before .before .before .before .before .before .before .args in
+    let a = c .before .before .before .before .before .before .before .before .before .before .before .before .args in
     let x = a .received .now in
     let w = a .written .now in
-    lost-low (a .link) x w _ (c .lost-in2 .result) (gets-none (a .link) (layer 0 x) (number (layer 0 w)) (c .before .before .before .before .before .before .before .before .numbers .result .low) (c .before .before .before .mend2 .result) (c .before .before .before .mend2 .ensures) (lows (c .before .before .before .before .before .before .before .before .numbers .ensures)) (c .before .enum-told2 .given .1)) (c .lost-in2 .ensures)
+    let n = c .before .before .before .before .before .before .before .before .numbers in
+    let m = c .before .before .before .mend2 in
+    lost-low (a .link) x w _ (c .lost-in2 .result) (gets-none (a .link) (layer 0 x) (number (layer 0 w)) (n .result .low) (m .result) (m .ensures) (lows (n .ensures)) (c .before .enum-told2 .given .1)) (c .lost-in2 .ensures)
 
 mended-pair-requires : tie.Need-mended-pair-requires
 mended-pair-requires c κs =
-    let a = c .before .before .before .before .before .before .before .before .before .before .before .before .before .before .args in
+    let a = c .before .before .before .before .before .before .before .before .before .before .before .before .before .args in
     let x = a .received .now in
     let w = a .written .now in
-    let h = gets-word (a .link) (layer 1 x) (number (layer 1 w)) (c .before .before .before .before .before .before .before .before .before .numbers .result .high) (c .before .before .before .before .before .before .before .before .mend .result) (c .before .before .before .before .before .before .before .before .mend .ensures) (highs (c .before .before .before .before .before .before .before .before .before .numbers .ensures)) _ _ (c .before .before .before .before .before .before .high .given .1) in
-    let k = gets-word (a .link) (layer 0 x) (number (layer 0 w)) (c .before .before .before .before .before .before .before .before .before .numbers .result .low) (c .before .before .before .before .mend2 .result) (c .before .before .before .before .mend2 .ensures) (lows (c .before .before .before .before .before .before .before .before .before .numbers .ensures)) _ _ (c .before .before .low .given .1) in
-    let p = c .before .before .before .before .before .before .before .before .before .before .before .before .before .before .pre .1 .0 in
+    let n = c .before .before .before .before .before .before .before .before .before .numbers in
+    let m = c .before .before .before .before .before .before .before .before .mend in
+    let o = c .before .before .before .before .mend2 in
+    let h = gets-word (a .link) (layer 1 x) (number (layer 1 w)) (n .result .high) (m .result) (m .ensures) (highs (n .ensures)) _ _ (c .before .before .before .before .before .before .high .given .1) in
+    let k = gets-word (a .link) (layer 0 x) (number (layer 0 w)) (n .result .low) (o .result) (o .ensures) (lows (n .ensures)) _ _ (c .before .before .low .given .1) in
+    let p = c .before .before .before .before .before .before .before .before .before .before .before .before .before .pre .1 .0 .0 in
     (p, (word-length (a .link) 1 x (number (layer 1 w)) _ h ∙ sym p, word-length (a .link) 0 x (number (layer 0 w)) _ k ∙ sym p))
 
-tail-of-requires : tie.Need-tail-of-requires
-tail-of-requires c κs = search needs
+tail-given-requires : tie.Need-tail-given-requires
+tail-given-requires c κs =
+    let a = c .before .before .before .before .before .before .before .before .before .before .before .before .before .before .before .before .before .args in
+    let b = c .before .before .before .before .before .before .before .before .before .before .before .before .before .before .before .before .before .pre in
+    let x = a .received .now in
+    let w = a .written .now in
+    let n = c .before .before .before .before .before .before .before .before .before .before .before .before .before .numbers in
+    let m = c .before .before .before .before .before .before .before .before .before .before .before .before .mend in
+    let o = c .before .before .before .before .before .before .before .before .mend2 in
+    let h = gets-word (a .link) (layer 1 x) (number (layer 1 w)) (n .result .high) (m .result) (m .ensures) (highs (n .ensures)) _ _ (c .before .before .before .before .before .before .before .before .before .before .high .given .1) in
+    let k = gets-word (a .link) (layer 0 x) (number (layer 0 w)) (n .result .low) (o .result) (o .ensures) (lows (n .ensures)) _ _ (c .before .before .before .before .before .before .low .given .1) in
+    let p = c .before .before .before .mended-pair in
+    mended-given (a .link) x w _ _ (p .last .1 .1 .1 .1 .0) (length (a .out .now)) (b .0) (b .1 .0 .0) (b .1 .1) h k (p .ensures)
 
 same-length : tie.Need-same-length
 same-length c = search needs
 
 returns-3 : tie.Need-returns-3
 returns-3 c =
-    let a = c .before .before .before .before .before .before .before .before .before .before .before .before .before .before .before .before .before .before .before .args in
+    let a = c .before .before .before .before .before .before .before .before .before .before .before .before .before .before .before .before .before .before .args in
     let x = a .received .now in
     let w = a .written .now in
-    let h = gets-word (a .link) (layer 1 x) (number (layer 1 w)) (c .before .before .before .before .before .before .before .before .before .before .before .before .before .before .numbers .result .high) (c .before .before .before .before .before .before .before .before .before .before .before .before .before .mend .result) (c .before .before .before .before .before .before .before .before .before .before .before .before .before .mend .ensures) (highs (c .before .before .before .before .before .before .before .before .before .before .before .before .before .before .numbers .ensures)) _ _ (c .before .before .before .before .before .before .before .before .before .before .before .high .given .1) in
-    let k = gets-word (a .link) (layer 0 x) (number (layer 0 w)) (c .before .before .before .before .before .before .before .before .before .before .before .before .before .before .numbers .result .low) (c .before .before .before .before .before .before .before .before .before .mend2 .result) (c .before .before .before .before .before .before .before .before .before .mend2 .ensures) (lows (c .before .before .before .before .before .before .before .before .before .before .before .before .before .before .numbers .ensures)) _ _ (c .before .before .before .before .before .before .before .low .given .1) in
-    read-both (a .link) x w _ _ _ _ h k refl (c .before .before .before .before .mended-pair .ensures) (c .tail-of .ensures)
+    let n = c .before .before .before .before .before .before .before .before .before .before .before .before .before .before .numbers in
+    let m = c .before .before .before .before .before .before .before .before .before .before .before .before .before .mend in
+    let o = c .before .before .before .before .before .before .before .before .before .mend2 in
+    let h = gets-word (a .link) (layer 1 x) (number (layer 1 w)) (n .result .high) (m .result) (m .ensures) (highs (n .ensures)) _ _ (c .before .before .before .before .before .before .before .before .before .before .before .high .given .1) in
+    let k = gets-word (a .link) (layer 0 x) (number (layer 0 w)) (n .result .low) (o .result) (o .ensures) (lows (n .ensures)) _ _ (c .before .before .before .before .before .before .before .low .given .1) in
+    read-both (a .link) x w _ _ _ _ h k refl (c .before .before .before .before .mended-pair .ensures) (c .tail-given .ensures)
 
 pub mend-both-spec : {M : Type 1} → statement M
 mend-both-spec =
     tie.close
     (tie.spec
-    sums-requires
     numbers-requires
     mend-requires
     enum-known-high
@@ -106,6 +120,6 @@ mend-both-spec =
     lost-in-requires-2
     returns-2
     mended-pair-requires
-    tail-of-requires
+    tail-given-requires
     same-length
     returns-3)

@@ -1,37 +1,50 @@
-use mathlib.Core.Path.{_≡_, refl, sym, ap, _∙_}
-use mathlib.Core.Bool.{Bool, true, false, cond}
-use Prim.Native.Nat.{_+_}
 use native.Mathlib.Omega.{arith}
 use borrow.Author.Needs.{needs}
 use lib.ListN.{length, take, drop}
-use Rattle.code.specs.Reading.{message, lost, messageWithout}
 use Rattle.message.proofs.Mends.{is-lost, is-message}
-use Rattle.message.proofs.Steps.{without-short, without-read, without-lost}
+use Rattle.message.proofs.Steps.{without-read, without-lost}
 use Rattle.message.proofs.without_separator.Statement.{statement}
 use Rattle.message.proofs.without_separator.Tie as tie
+
+add-is-at : tie.Need-add-is-at
+add-is-at c = search needs
+
+is-at-requires : tie.Need-is-at-requires
+is-at-requires c κs = search needs
+
+taken-with-requires : tie.Need-taken-with-requires
+taken-with-requires c κs = search needs
+
+same-length : tie.Need-same-length
+same-length c = search needs
+
+returns : tie.Need-returns
+returns c =
+    let b = c .before .before .before .before .before .before .before .before in
+    let a = b .args in
+    let k = length (a .out .now) in
+    let i = c .before .before .before .before .before .is-at in
+    let t = c .before .before .taken-with in
+    is-message _ (take k (drop (a .d) (a .s .now))) _ (t .result) (without-read k (a .d) (a .s .now) (a .tail .check) (i .result) (b .pre .1 .1 .check) (i .ensures) (c .before .before .before .before .if1 .taken)) (t .ensures)
+
+lost-in-requires : tie.Need-lost-in-requires
+lost-in-requires c κs = search needs
+
+returns-2 : tie.Need-returns-2
+returns-2 c =
+    let b = c .before .before .before .before .before in
+    let a = b .args in
+    let i = c .before .before .is-at in
+    is-lost _ _ (c .lost-in .result) 6 (without-lost (length (a .out .now)) (a .d) (a .s .now) (a .tail .check) (i .result) (b .pre .1 .1 .check) (i .ensures) (c .before .if1 .left)) (c .lost-in .ensures)
 
 pub without-separator-spec : {M : Type 1} → statement M
 without-separator-spec =
     tie.close
     (tie.spec
-    (λ c. search needs)
-    (λ c κs. search needs)
-    (λ c.
-    let a = c .before .before .before .before .args in
-    is-lost _ _ (c .lost-in .result) 6 (without-short (length (a .out .now)) (a .d) (a .s .now) (omega arith)) (c .lost-in .ensures))
-    (λ c κs. search needs)
-    (λ c. search needs)
-    (λ c κs. search needs)
-    (λ c. search needs)
-    (λ c.
-    let a = c .before .before .before .before .before .before .before .before .before .before .args in
-    let t = c .before .before .before .before .before .taken in
-    let e = without-read (length (a .out .now)) (a .d) (a .s .now) (t .result .tail .check) (c .before .is-at .result) (t .ensures .2 .check) (c .before .is-at .ensures) (c .if2 .taken) in
-    is-message _ (take (length (a .out .now)) (drop (a .d) (a .s .now))) _ (t .result) e (t .ensures))
-    (λ c κs. search needs)
-    (λ c. search needs)
-    (λ c.
-    let a = c .before .before .before .before .before .before .before .before .before .before .before .args in
-    let t = c .before .before .before .before .before .before .taken in
-    let e = without-lost (length (a .out .now)) (a .d) (a .s .now) (t .result .tail .check) (c .before .before .is-at .result) (t .ensures .2 .check) (c .before .before .is-at .ensures) (c .before .if2 .left) in
-    is-lost _ _ (c .lost-in2 .result) 6 e (c .lost-in2 .ensures)))
+    add-is-at
+    is-at-requires
+    taken-with-requires
+    same-length
+    returns
+    lost-in-requires
+    returns-2)

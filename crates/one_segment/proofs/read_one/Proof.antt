@@ -1,67 +1,199 @@
+use mathlib.Core.Path.{_≡_, refl, ap, subst, _∙_}
+use mathlib.Core.Bool.{false≢true}
+use Prim.Native.Nat.{ℕ, _+_, _-_, _≤_}
 use borrow.Author.Needs.{needs}
+use borrow.Author.Tests.{not-true, not-false}
 use native.Mathlib.Omega.{arith}
-use lib.ListN.{length, drop, length-drop}
-use Rattle.scan.proofs.Starts.{size-room, start-at}
-use Rattle.one_segment.proofs.Ending.{end-inside}
-use Rattle.one_segment.proofs.OneRead.{message-lost, message-read, end-lost, end-read, placed}
+use lib.ListN.{length, take, drop}
+use Rattle.code.specs.Layers.{sumOfPlaces, width}
+use Rattle.code.specs.SegmentLaws.{width-two}
+use Rattle.layers.specs.declared.Summed.{Summed}
+use Rattle.layers.specs.Answers.{both}
+use Rattle.message.proofs.Mends.{is-got}
+use Rattle.message.proofs.Steps.{part-is}
+use Rattle.message.proofs.Parts.{part-length, tail-part}
+use Rattle.one_segment.proofs.InPlace.{tail-room}
+use Rattle.one_segment.proofs.OneRead.{placed, got-hit, hit-index, got-whole, got-short, answers-lost}
+use Rattle.one_segment.proofs.Known.{tail-here, stands-answers}
 use Rattle.one_segment.proofs.read_one.Statement.{statement}
 use Rattle.one_segment.proofs.read_one.Tie as tie
 
-read-message-requires : tie.Need-read-message-requires
-read-message-requires c κs =
-    let a = c .before .before .before .before .before .args in
-    ((search needs, search needs, search needs), ((placed (a .s .now) (a .p) (a .marked) _ _ _ (c .before .before .data-at .ensures .0) (c .before .find-separator .ensures), search needs), c .before .before .before .before .before .pre .0))
+data-at-requires : tie.Need-data-at-requires
+data-at-requires c κs = search needs
+
+add-d : tie.Need-add-d
+add-d c = search needs
+
+is-whole-requires : tie.Need-is-whole-requires
+is-whole-requires c κs = search needs
+
+find-separator-requires : tie.Need-find-separator-requires
+find-separator-requires c κs = search needs
+
+read-hit-requires : tie.Need-read-hit-requires
+read-hit-requires c κs =
+    let b = c .before .before .before .before .before .before .before in
+    let a = b .args in
+    let w = c .before .before .before .is-whole in
+    ((omega arith, omega arith, omega arith), ((hit-index (a .s .now) (a .p) (a .marked) (length (a .out .now)) (w .result) (w .ensures) (not-true _ (c .before .before .if1 .taken)) _ _ (c .before .before .before .before .data-at .ensures .0) (c .before .find-separator .ensures), omega arith), b .pre .0))
+
+finished-requires : tie.Need-finished-requires
+finished-requires c κs =
+    let b = c .before .before .before .before .before .before .before .before .before .before .before in
+    let a = b .args in
+    let w = c .before .before .before .before .before .before .before .is-whole in
+    let g = c .before .before .before .read-hit in
+    (b .pre .0, (b .pre .1 .0, (b .pre .1 .1, (placed (a .s .now) (a .p) (a .marked) _ _ _ (c .before .before .before .before .before .before .before .before .data-at .ensures .0) (c .before .before .before .before .before .find-separator .ensures), is-got _ _ _ (g .result) (got-hit (a .s .now) (a .p) (a .marked) (length (a .out .now)) (w .result) (w .ensures) (not-true _ (c .before .before .before .before .before .before .if1 .taken))) (g .ensures)))))
+
+same-length : tie.Need-same-length
+same-length c = search needs
 
 returns : tie.Need-returns
-returns c =
-    let a = c .before .before .before .before .before .before .before .before .before .args in
-    let g = c .before .before .before .read-message in
-    message-lost (a .marked) (a .f) (length (a .out .now)) (a .next) (a .p) (drop (a .p) (a .s .now)) _ (g .result) (g .ensures) (search needs)
+returns c = search needs
 
-end-of-requires : tie.Need-end-of-requires
-end-of-requires c κs =
-    let a = c .before .before .before .before .before .before .before .before .before .before .before .args in
-    let h = c .before .before .before .before .before .before .before .before .before .before .before .pre .1 .0 in
-    let g = c .before .before .before .before .before .read-message in
-    let m = message-read (a .marked) (a .f) (length (a .out .now)) (a .next) (a .p) (drop (a .p) (a .s .now)) _ (g .result) (g .ensures) (search needs) (omega (arith, h .2)) in
-    (c .before .before .before .before .before .before .before .before .before .before .before .pre .0, (m .tail, ((search needs, search needs, omega (arith, m .long, h .2, h .3), omega (arith, m .long, h .2, h .3)), (search needs, c .before .before .before .before .before .before .before .before .before .before .before .pre .1 .1 .1, rw (m .long) (placed (a .s .now) (a .p) (a .marked) _ _ _ (c .before .before .before .before .before .before .before .before .data-at .ensures .0) (c .before .before .before .before .before .before .before .find-separator .ensures))))))
+add-to : tie.Need-add-to
+add-to c = search needs
 
 returns-2 : tie.Need-returns-2
 returns-2 c =
-    let a = c .before .before .before .before .before .before .before .before .before .before .before .before .before .before .args in
-    let h = c .before .before .before .before .before .before .before .before .before .before .before .before .before .before .pre .1 .0 in
-    let g = c .before .before .before .before .before .before .before .before .read-message in
-    let S = drop (a .p) (a .s .now) in
-    let k = length (a .out .now) in
-    let m = message-read (a .marked) (a .f) k (a .next) (a .p) S _ (g .result) (g .ensures) (search needs) (omega (arith, h .2)) in
-    let e = c .before .before .end-of in
-    end-lost (a .marked) (a .f) k (a .next) (a .p) S _ (m .is-got) (m .long) (e .result) (e .ensures) (c .enum-told .given .1)
+    let b = c .before .before .before .before .before .before in
+    let a = b .args in
+    let w = c .before .before .is-whole in
+    let l = answers-lost (a .marked) (a .f) (length (a .out .now)) (a .next) (a .p) (drop (a .p) (a .s .now)) (a .out .now) 6 (got-short (a .s .now) (a .p) (a .marked) (length (a .out .now)) (w .result) (w .ensures) (not-false _ (c .before .if1 .left)) _ (c .before .before .before .data-at .ensures .0) (omega arith)) in
+    (l .0, (l .1, λ q. absurd (false≢true q)))
 
-compared-requires : tie.Need-compared-requires
-compared-requires c κs =
-    let a = c .before .before .before .before .before .before .before .before .before .before .before .before .before .before .before .before .args in
-    let h = c .before .before .before .before .before .before .before .before .before .before .before .before .before .before .before .before .pre .1 .0 in
-    let g = c .before .before .before .before .before .before .before .before .before .before .read-message in
-    let S = drop (a .p) (a .s .now) in
+sub-sums : tie.Need-sub-sums
+sub-sums c = search needs
+
+part-sums-start : tie.Need-part-sums-start
+part-sums-start c = search needs
+
+part-sums-end : tie.Need-part-sums-end
+part-sums-end c = search needs
+
+sums-requires : tie.Need-sums-requires
+sums-requires c κs = search needs
+
+sub-tail-with : tie.Need-sub-tail-with
+sub-tail-with c = search needs
+
+part-tail-with-start : tie.Need-part-tail-with-start
+part-tail-with-start c = search needs
+
+part-tail-with-end : tie.Need-part-tail-with-end
+part-tail-with-end c = search needs
+
+tail-with-requires : tie.Need-tail-with-requires
+tail-with-requires c κs = search needs
+
+stands-alone-requires : tie.Need-stands-alone-requires
+stands-alone-requires c κs =
+    let b = c .before .before .before .before .before .before .before .before .before .before in
+    let a = b .args in
+    let t = c .tail-with in
+    ((omega arith, omega arith, omega arith, ap (_+_ (a .p)) (c .before .before .before .before .before .before .before .data-at .ensures .0), omega arith, omega arith), (tail-here (a .marked) (a .p) (length (a .out .now)) (c .before .before .before .before .before .before .before .data-at .result) (a .p + c .before .before .before .before .before .before .before .data-at .result + length (a .out .now)) (a .s .now) (t .result) (c .before .before .before .before .before .before .before .data-at .ensures .0) refl (t .ensures)))
+
+copy-requires : tie.Need-copy-requires
+copy-requires c κs = search needs
+
+add-t35 : tie.Need-add-t35
+add-t35 c =
+    let b = c .before .before .before .before .before .before .before .before .before .before .before .before .before .before .before .before .before in
+    let a = b .args in
+    let t = c .before .before .before .before .before .before .before .tail-with in
+    omega (arith, tail-room (a .marked) (a .p) (a .s .now) (length (a .out .now)) (t .result) (omega arith) (tail-here (a .marked) (a .p) (length (a .out .now)) (c .before .before .before .before .before .before .before .before .before .before .before .before .before .before .data-at .result) (a .p + c .before .before .before .before .before .before .before .before .before .before .before .before .before .before .data-at .result + length (a .out .now)) (a .s .now) (t .result) (c .before .before .before .before .before .before .before .before .before .before .before .before .before .before .data-at .ensures .0) refl (t .ensures)))
+
+add-t36 : tie.Need-add-t36
+add-t36 c =
+    let b = c .before .before .before .before .before .before .before .before .before .before .before .before .before .before .before .before .before in
+    let a = b .args in
+    let t = c .before .before .before .before .before .before .before .tail-with in
+    omega (arith, tail-room (a .marked) (a .p) (a .s .now) (length (a .out .now)) (t .result) (omega arith) (tail-here (a .marked) (a .p) (length (a .out .now)) (c .before .before .before .before .before .before .before .before .before .before .before .before .before .before .data-at .result) (a .p + c .before .before .before .before .before .before .before .before .before .before .before .before .before .before .data-at .result + length (a .out .now)) (a .s .now) (t .result) (c .before .before .before .before .before .before .before .before .before .before .before .before .before .before .data-at .ensures .0) refl (t .ensures)))
+
+last-of-requires : tie.Need-last-of-requires
+last-of-requires c κs =
+    let b = c .before .before .before .before .before .before .before .before .before .before .before .before .before .before .before .before .before in
+    let a = b .args in
     let k = length (a .out .now) in
-    let m = message-read (a .marked) (a .f) k (a .next) (a .p) S _ (g .result) (g .ensures) (search needs) (omega (arith, h .2)) in
-    let e = c .before .before .before .before .end-of in
-    let n = start-at (a .p) _ _ (e .result) (e .ensures) (c .before .before .end .given .1) in
-    let i = end-inside (a .marked) S (g .last .1 .1 .1 .1 .0) (omega (arith, m .long, h .2, h .3)) _ _ (n .is) (omega (arith, size-room (a .marked) (length (g .last .1 .1 .1 .1 .0)) (omega (arith, m .long, h .2, h .3)) (omega (arith, m .long, h .2, h .3)) .0)) in
-    (m .small, (m .tail, ((n .behind, omega (arith, i, n .behind, length-drop (a .p) (a .s .now), h .0), h .1), (c .before .before .before .before .before .before .before .before .before .before .before .before .before .before .before .before .pre .1 .1 .2, omega (arith, m .long, h .2, h .3), omega (arith, m .long, h .2, h .3)))))
+    let t = c .before .before .before .before .before .before .before .tail-with in
+    let d = c .before .before .before .before .before .before .before .before .before .before .before .before .before .before .data-at .result in
+    let n = part-length (a .p + d) k (a .s .now) (a .p + d + k) refl (omega arith) in
+    let w = width-two k (omega arith) in
+    let e : t .result .width ≡ width k = t .ensures .width ∙ ap width n in
+    (omega (arith, e, w), tail-room (a .marked) (a .p) (a .s .now) k (t .result) (omega arith) (tail-here (a .marked) (a .p) (length (a .out .now)) (c .before .before .before .before .before .before .before .before .before .before .before .before .before .before .data-at .result) (a .p + c .before .before .before .before .before .before .before .before .before .before .before .before .before .before .data-at .result + length (a .out .now)) (a .s .now) (t .result) (c .before .before .before .before .before .before .before .before .before .before .before .before .before .before .data-at .ensures .0) refl (t .ensures)), t .ensures .room)
+
+same-length-2 : tie.Need-same-length-2
+same-length-2 c = search needs
 
 returns-3 : tie.Need-returns-3
 returns-3 c =
-    let a = c .before .before .before .before .before .before .before .before .before .before .before .before .before .before .before .before .before .args in
-    let h = c .before .before .before .before .before .before .before .before .before .before .before .before .before .before .before .before .before .pre .1 .0 in
-    let g = c .before .before .before .before .before .before .before .before .before .before .before .read-message in
-    let S = drop (a .p) (a .s .now) in
+    let b = c .before .before .before .before .before .before .before .before .before .before .before .before .before .before .before .before .before .before in
+    let a = b .args in
     let k = length (a .out .now) in
-    let m = message-read (a .marked) (a .f) k (a .next) (a .p) S _ (g .result) (g .ensures) (search needs) (omega (arith, h .2)) in
-    let e = c .before .before .before .before .before .end-of in
-    let n = start-at (a .p) _ _ (e .result) (e .ensures) (c .before .before .before .end .given .1) in
-    let i = end-inside (a .marked) S (g .last .1 .1 .1 .1 .0) (omega (arith, m .long, h .2, h .3)) _ _ (n .is) (omega (arith, size-room (a .marked) (length (g .last .1 .1 .1 .1 .0)) (omega (arith, m .long, h .2, h .3)) (omega (arith, m .long, h .2, h .3)) .0)) in
-    end-read (a .marked) (a .f) k (a .next) (a .p) S _ (m .is-got) (m .long) (c .compared .result) _ (n .is) i (m .small) (c .compared .ensures)
+    let t = c .before .before .before .before .before .before .before .before .tail-with in
+    let x = c .before .before .before .before .before .before .before .stands-alone .ensures (c .before .before .before .before .before .before .if3 .taken) in
+    let l = stands-answers (a .marked) (a .f) k (a .next) (a .p) (c .before .before .before .before .before .before .before .before .before .before .before .before .before .before .before .data-at .result) (a .s .now) (t .result) (omega arith) (b .pre .0) (c .before .before .before .before .before .before .before .before .before .before .before .before .before .before .before .data-at .ensures .0) (omega arith) (tail-here (a .marked) (a .p) (length (a .out .now)) (c .before .before .before .before .before .before .before .before .before .before .before .before .before .before .before .data-at .result) (a .p + c .before .before .before .before .before .before .before .before .before .before .before .before .before .before .before .data-at .result + length (a .out .now)) (a .s .now) (t .result) (c .before .before .before .before .before .before .before .before .before .before .before .before .before .before .before .data-at .ensures .0) refl (t .ensures)) (x .0) (x .1) (c .before .before .before .before .copy .last .1 .1 .0) (c .before .before .before .before .copy .ensures) (c .last-of .result) (c .last-of .ensures) in
+    (l .0, (l .1, λ q. absurd (false≢true q)))
+
+find-separator-requires-2 : tie.Need-find-separator-requires-2
+find-separator-requires-2 c κs = search needs
+
+read-whole-requires : tie.Need-read-whole-requires
+read-whole-requires c κs =
+    let b = c .before .before .before .before .before .before .before .before .before .before .before .before .before .before in
+    let a = b .args in
+    let k = length (a .out .now) in
+    let d = c .before .before .before .before .before .before .before .before .before .before .before .data-at .result in
+    let u = c .before .before .before .before .before .before .sums in
+    let t = c .before .before .before .before .tail-with in
+    let r : a .p + d + k ≤ length (a .s .now) = omega (arith, c .before .before .before .before .before .before .before .before .if2 .left) in
+    ((omega arith, omega arith, r), ((c .before .find-separator2 .ensures, omega arith), ((ap (λ (s : Summed). s .places) (u .ensures) ∙ ap (both sumOfPlaces) (part-is (a .p + d) k (a .s .now) (a .p + d + k) refl), tail-part (a .p + d) k (a .p + d + k) (a .s .now) (t .result) refl (t .ensures)), b .pre .0)))
+
+finished-requires-2 : tie.Need-finished-requires-2
+finished-requires-2 c κs =
+    let b = c .before .before .before .before .before .before .before .before .before .before .before .before .before .before .before .before .before .before in
+    let a = b .args in
+    let w = c .before .before .before .before .before .before .before .before .before .before .before .before .before .before .is-whole in
+    let g = c .before .before .before .read-whole in
+    (b .pre .0, (b .pre .1 .0, (b .pre .1 .1, (placed (a .s .now) (a .p) (a .marked) _ _ _ (c .before .before .before .before .before .before .before .before .before .before .before .before .before .before .before .data-at .ensures .0) (c .before .before .before .before .before .find-separator2 .ensures), is-got _ _ _ (g .result) (got-whole (a .s .now) (a .p) (a .marked) (length (a .out .now)) (w .result) (w .ensures) (not-false _ (c .before .before .before .before .before .before .before .before .before .before .before .before .before .if1 .left)) _ (c .before .before .before .before .before .before .before .before .before .before .before .before .before .before .before .data-at .ensures .0)) (g .ensures)))))
+
+same-length-3 : tie.Need-same-length-3
+same-length-3 c = search needs
+
+returns-4 : tie.Need-returns-4
+returns-4 c = search needs
 
 pub read-one-spec : {M : Type 1} → statement M
-read-one-spec = tie.close (tie.spec (λ c κs. search needs) (λ c. search needs) (λ c κs. search needs) read-message-requires (λ c. search needs) returns end-of-requires (λ c. search needs) (λ c. search needs) (λ c. search needs) returns-2 compared-requires (λ c. search needs) returns-3)
+read-one-spec =
+    tie.close
+    (tie.spec
+    data-at-requires
+    add-d
+    is-whole-requires
+    find-separator-requires
+    read-hit-requires
+    finished-requires
+    same-length
+    returns
+    add-to
+    returns-2
+    sub-sums
+    part-sums-start
+    part-sums-end
+    sums-requires
+    sub-tail-with
+    part-tail-with-start
+    part-tail-with-end
+    tail-with-requires
+    stands-alone-requires
+    copy-requires
+    add-t35
+    add-t36
+    last-of-requires
+    same-length-2
+    returns-3
+    find-separator-requires-2
+    read-whole-requires
+    finished-requires-2
+    same-length-3
+    returns-4)

@@ -3,11 +3,13 @@ use mathlib.Core.Bool.{not}
 use Prim.Native.Nat.{ℕ, _+_, _-_}
 use native.Mathlib.Omega.{arith}
 use borrow.Author.Needs.{needs}
+use borrow.Author.Tests.{ne-eqb}
 use lib.Dec.{eqb}
 use lib.ListN.{length, getD}
 use Rattle.code.specs.Lists.{putAt}
 use Rattle.reading.specs.Steps.{Step, stepOf}
-use Rattle.reading.specs.Nexts.{IsNext}
+use Rattle.reading.specs.Nexts.{IsNext, Follows}
+use Rattle.reading.proofs.Walking.{next-inside}
 use Rattle.reading.proofs.Layouts.{Walk, within-at, within-behind, walk-begin, walk-turn, walk-end, walk-room}
 use Rattle.reading.proofs.walk.read_layout.Statement.{statement}
 use Rattle.reading.proofs.walk.read_layout.Tie as tie
@@ -22,7 +24,7 @@ loop-holds : tie.Need-loop-holds Inv-loop μ-loop
 loop-holds c =
     let a = c .before .before .before .before .before .args in
     let h = c .before .before .before .before .before .pre .1 .1 in
-    walk-begin (a .lengths .now) (a .s .now) (a .symbols .now) (a .marks .now) (a .ends .now) _ (h .1) (h .2) (h .3) refl refl refl
+    walk-begin (a .lengths .now) (a .s .now) (a .symbols .now) (a .marks .now) (a .ends .now) _ (h .1) (h .2) (h .3) refl refl refl refl
 
 mul-k : tie.Need-mul-k Inv-loop μ-loop
 mul-k c = search needs
@@ -42,7 +44,7 @@ read-into-requires c κs =
     let b = within-behind (a .lengths .now) (l .i + 1) (h .1 .0) in
     let n = c .before .next-length .ensures in
     let r = walk-room (a .lengths .now) (a .s .now) _ _ _ _ _ _ (l .inv) (c .before .before .before .loop-test .taken) in
-    (h .0, ((l .inv .start, h .1 .1 .0, k .0, k .1, r), (omega (arith, n, b .most), λ e. b .not-one (sym n ∙ e), l .inv .small)))
+    (h .0, ((l .inv .start, h .1 .1 .0, k .0, k .1, r), ((omega (arith, n, b .most), λ e. b .not-one (sym n ∙ e), l .inv .small), λ q. let x = l .inv .known q in (ap not (ne-eqb (l .i) 0 (λ z. omega (arith, x .0))), rw (next-inside (a .lengths .now) (l .i) (c .before .before .before .loop-test .taken)) (x .1)))))
 
 slice-write-marks : tie.Need-slice-write-marks Inv-loop μ-loop
 slice-write-marks c = omega (arith, c .before .before .before .before .before .before .before .before .loop .inv .marks-room, c .before .before .before .before .before .before .before .loop-test .taken)
@@ -72,7 +74,7 @@ loop-again c =
     let n = c .before .before .before .before .before .next-length .ensures in
     let g = c .before .before .before .read-into in
     let t : ℕ → Step = λ x. stepOf (l .prior .found) (not (eqb (l .i) 0)) (l .prior .f) (getD (a .lengths .now) (l .i) 0) x (l .prior .start) (a .s .now) in
-    walk-turn (a .lengths .now) (a .s .now) (l .symbols) (l .marks) (l .ends) (l .prior) (g .result) (l .at) (l .i) (getD (a .lengths .now) (l .i) 0) (l .inv) (c .before .before .before .before .before .before .before .loop-test .taken) refl (k .0) b (subst (λ (x : ℕ). IsNext (length (a .s .now)) (t x) (g .result)) n (g .ensures .0)) _ _ (g .ensures .1 ∙ ap (λ (x : ℕ). putAt (l .symbols) (l .at) (t x .outcome .message)) n) (c .mark-of .ensures)
+    walk-turn (a .lengths .now) (a .s .now) (l .symbols) (l .marks) (l .ends) (l .prior) (g .result) (l .at) (l .i) (getD (a .lengths .now) (l .i) 0) (l .inv) (c .before .before .before .before .before .before .before .loop-test .taken) refl (k .0) b (subst (λ (x : ℕ). IsNext (length (a .s .now)) (t x) (g .result)) n (g .ensures .0)) (subst (λ (x : ℕ). Follows (a .s .now) x (g .result)) n (g .ensures .1 .1)) _ _ (g .ensures .1 .0 ∙ ap (λ (x : ℕ). putAt (l .symbols) (l .at) (t x .outcome .message)) n) (c .mark-of .ensures)
 
 returns : tie.Need-returns Inv-loop μ-loop
 returns c =

@@ -9,10 +9,10 @@ use Rattle.code.specs.Reading.{gotHit, message, moved}
 use Rattle.message.specs.Answers.{shiftOf}
 use Rattle.message.proofs.Mends.{is-lost, is-got}
 use Rattle.message.proofs.Steps.{found-room, found-over, hit-room}
-use Rattle.message.proofs.at_hit_marker.Statement.{statement}
-use Rattle.message.proofs.at_hit_marker.Tie as tie
-use Rattle.message.proofs.at_hit_marker.Reads as reads
-use Rattle.message.proofs.at_hit_marker.Lts as lts
+use Rattle.message.proofs.read_hit.Statement.{statement}
+use Rattle.message.proofs.read_hit.Tie as tie
+use Rattle.message.proofs.read_hit.Reads as reads
+use Rattle.message.proofs.read_hit.Lts as lts
 use Rattle.message.proofs.lost_in.Reads as lost-in-reads
 use Rattle.message.proofs.shifted.Reads as shifted-reads
 use Rattle.message.proofs.taken.Reads as taken-reads
@@ -57,8 +57,8 @@ returns-2 c =
     let f = found-room k (a .j) (drop (a .p + 2) (a .s .now)) (omega arith) (c .before .before .before .before .before .before .before .before .pre .1 .0 .0) in
     is-got _ _ _ (c .before .before .taken .result) (ap (gotHit k (drop (a .p) (a .s .now))) (f .0) ∙ ap (λ (n : List ℕ). message (take k n)) (drop-drop (moved (shiftOf (a .j)) 2) (a .p) (a .s .now)) ∙ ap (λ (n : ℕ). message (take k (drop (a .p + n) (a .s .now)))) (sym (c .before .before .before .before .shifted .ensures .0))) (c .before .before .taken .ensures)
 
-pub at-hit-marker-spec : {M : Type 1} → statement M
-at-hit-marker-spec =
+pub read-hit-spec : {M : Type 1} → statement M
+read-hit-spec =
     tie.close
     (tie.spec
     lost-in-requires

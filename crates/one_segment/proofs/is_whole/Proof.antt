@@ -1,0 +1,23 @@
+use borrow.Author.Needs.{needs}
+use mathlib.Core.Path.{_≡_, _∙_}
+use lib.ListN.{drop}
+use Rattle.code.specs.Reading.{whole}
+use Rattle.one_segment.proofs.is_whole.Statement.{statement}
+use Rattle.one_segment.proofs.is_whole.Tie as tie
+
+two-equal-requires : tie.Need-two-equal-requires
+two-equal-requires c κs = search needs
+
+returns : tie.Need-returns
+returns c = rw (c .before .if1 .taken) (c .two-equal .ensures)
+
+returns-2 : tie.Need-returns-2
+returns-2 c = search needs
+
+pub is-whole-spec : {M : Type 1} → statement M
+is-whole-spec =
+    tie.close
+    (tie.spec
+    two-equal-requires
+    returns
+    returns-2)
