@@ -1,5 +1,4 @@
 // The reading call and the piece call, on letters.
-use crate::walk;
 use code::Checked;
 use code::Counted;
 use code::Decoded;
@@ -59,7 +58,7 @@ pub fn read(k: u32, b: u32, letters: &[u8], message: &mut [u8], sheet: &mut [u8]
         return Counted::Refused(Refusal::ForeignLetter(i));
     }
     let n = letters.len();
-    let counts = walk::read_symbols(k as usize, l, &s[..n], message, sheet);
+    let counts = equal_segments::read_symbols(k as usize, l, &s[..n], message, sheet);
     Counted::Counts(counts.clean, counts.corrected, counts.lost)
 }
 
@@ -81,7 +80,7 @@ pub fn locate(k: u32, b: u32, letters: &[u8], segment: u32) -> Located
         return Located::Refused(Refusal::NoSuchSegment);
     }
     let n = letters.len();
-    let span = walk::span_of(k as usize, l as usize, &s[..n], segment as usize - 1);
+    let span = equal_segments::span_of(k as usize, l as usize, &s[..n], segment as usize - 1);
     Located::At(span.start, span.end)
 }
 

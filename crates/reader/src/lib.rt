@@ -1,3 +1,2 @@
 // The reader: received letters to bytes, sheet, counts and pieces.
 pub mod call;
-pub mod walk;

@@ -14,7 +14,7 @@ use Rattle.reader.proofs.call.read.Reads as reads
 use Rattle.reader.proofs.call.read.Lts as lts
 use Rattle.reader.proofs.call.received_test.Reads as received-test-reads
 use Rattle.reader.proofs.call.short_buffers.Reads as short-buffers-reads
-use Rattle.reader.proofs.walk.read_symbols.Reads as read-symbols-reads
+use Rattle.equal_segments.proofs.read_symbols.Reads as read-symbols-reads
 use Rattle.symbols.proofs.decode.Reads as decode-reads
 
 -- src/call.rt:46:9
