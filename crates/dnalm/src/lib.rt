@@ -29,7 +29,7 @@ pub fn write(k: u32, b: u32, message: &[u8], out: &mut [u8]) -> Wrote
     ensures { λ r. ⌜ r ≡ wroteOf (writeTest k b (now (message .entry)) (length (now (out .entry)))) (extent false (layoutOf k b)) ⌝ }
     ensures { λ _. ⌜ now (out .exit) ≡ bufferOf (writeTest k b (now (message .entry)) (length (now (out .entry)))) (strandOf (layoutOf k b) (now (message .entry))) (now (out .entry)) ⌝ }
 {
-    strand::writer::write(k, b, message, out)
+    strand::write(k, b, message, out)
 }
 
 // Reads a strand: the received `letters`, written for k = `k` and B = `b`. The B bytes of the message go to the front of `message`,
@@ -84,7 +84,7 @@ pub fn write_label(k: u32, b: u32, out: &mut [u8]) -> Checked
     ensures { λ r. ⌜ r ≡ labelTest k b (length (now (out .entry))) ⌝ }
     ensures { λ _. ⌜ now (out .exit) ≡ bufferOf (labelTest k b (length (now (out .entry)))) (labelBytes k b) (now (out .entry)) ⌝ }
 {
-    strand::label::write(k, b, out)
+    label::write(k, b, out)
 }
 
 // Reads a label and answers its k and B. Bytes behind the first four are not read.
@@ -94,7 +94,7 @@ pub fn write_label(k: u32, b: u32, out: &mut [u8]) -> Checked
 pub fn read_label(bytes: &[u8]) -> Order
     ensures { λ r. ⌜ r ≡ orderOf (now (bytes .entry)) ⌝ }
 {
-    strand::label::read(bytes)
+    label::read(bytes)
 }
 
 // Adds the three counts of one reading to a tally, and one strand, and answers the new tally.
@@ -102,19 +102,19 @@ pub fn read_label(bytes: &[u8]) -> Order
 pub fn add_to_tally(t: Tally, clean: u32, corrected: u32, lost: u32) -> Tallied
     ensures { λ r. ⌜ r ≡ tallied t clean corrected lost ⌝ }
 {
-    strand::tally::add(t, clean, corrected, lost)
+    tally::add(t, clean, corrected, lost)
 }
 
 // The number of a refusal, 1 to 9.
 pub fn refusal_number(r: Refusal) -> u8
     ensures { λ n. ⌜ n ≡ numberOf r ⌝ }
 {
-    strand::refusal::number_of(r)
+    refusal::number_of(r)
 }
 
 // The place that a refusal names: for 6 that of the first foreign letter, from 0; for any other 0.
 pub fn refusal_place(r: Refusal) -> usize
     ensures { λ n. ⌜ n ≡ placeOf r ⌝ }
 {
-    strand::refusal::place_of(r)
+    refusal::place_of(r)
 }

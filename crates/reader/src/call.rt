@@ -4,7 +4,6 @@ use code::Counted;
 use code::Decoded;
 use code::Located;
 use code::Refusal;
-use strand::refusal;
 ghost use mathlib.Core.Path.{_≡_};
 ghost use mathlib.Core.Bool.{_||_};
 ghost use Prim.Native.Nat.{_-_, _≤_};

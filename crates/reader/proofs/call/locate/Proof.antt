@@ -14,7 +14,7 @@ use Rattle.reader.proofs.call.locate.Reads as reads
 use Rattle.reader.proofs.call.locate.Lts as lts
 use Rattle.reader.proofs.call.received_test.Reads as received-test-reads
 use Rattle.equal_segments.proofs.span_of.Reads as span-of-reads
-use Rattle.strand.proofs.refusal.outside.Reads as outside-reads
+use Rattle.refusal.proofs.outside.Reads as outside-reads
 use Rattle.symbols.proofs.decode.Reads as decode-reads
 
 -- src/call.rt:70:9

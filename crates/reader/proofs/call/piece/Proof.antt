@@ -7,8 +7,8 @@ use Rattle.reader.proofs.call.piece.Tie as tie
 use Rattle.reader.proofs.call.piece.Reads as reads
 use Rattle.reader.proofs.call.piece.Lts as lts
 use Rattle.reader.proofs.call.locate.Reads as locate-reads
-use Rattle.strand.proofs.refusal.number_of.Reads as number-of-reads
-use Rattle.strand.proofs.refusal.place_of.Reads as place-of-reads
+use Rattle.refusal.proofs.number_of.Reads as number-of-reads
+use Rattle.refusal.proofs.place_of.Reads as place-of-reads
 
 -- src/call.rt:102:9
 locate-requires : tie.Need-locate-requires

@@ -12,7 +12,7 @@ use Rattle.reader.proofs.call.received_test.Statement.{statement}
 use Rattle.reader.proofs.call.received_test.Tie as tie
 use Rattle.reader.proofs.call.received_test.Reads as reads
 use Rattle.reader.proofs.call.received_test.Lts as lts
-use Rattle.strand.proofs.refusal.order_test.Reads as order-test-reads
+use Rattle.refusal.proofs.order_test.Reads as order-test-reads
 
 -- src/call.rt:22:9
 order-test-requires : tie.Need-order-test-requires
