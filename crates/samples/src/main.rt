@@ -97,7 +97,7 @@ fn written(k: u32, b: u32) {
     number(k as u64);
     word(b" B");
     number(b as u64);
-    match dnalm::write(k, b, text::lines::front(&message, b as usize), &mut out) {
+    match dnalm::write(k, b, lines::front(&message, b as usize), &mut out) {
         Wrote::Letters(n) => {
             word(b" letters");
             number(n as u64);
