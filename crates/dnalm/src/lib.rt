@@ -46,7 +46,7 @@ pub fn read(k: u32, b: u32, letters: &[u8], message: &mut [u8], sheet: &mut [u8]
     ensures { λ _. ⌜ now (sheet .exit) ≡ bufferOf (readTest k b (now (letters .entry)) (length (now (message .entry))) (length (now (sheet .entry)))) (sheetFor k b (now (letters .entry))) (now (sheet .entry)) ⌝ }
     ensures { λ r. ⌜ Demand-3-call k b (now (letters .entry)) r (now (message .entry)) (now (message .exit)) (now (sheet .entry)) (now (sheet .exit)) ⌝ }
 {
-    reader::call::read(k, b, letters, message, sheet)
+    reader::read(k, b, letters, message, sheet)
 }
 
 // Hands back the piece of a segment, from 1: its stretch of the caller's own `letters`, received for k and B; `number` and
@@ -65,14 +65,14 @@ pub fn piece<'a>(
     ensures { λ _. ⌜ now (number .exit) ≡ testNumber (pieceTest k b (now (letters .entry)) segment) ⌝ }
     ensures { λ _. ⌜ now (place .exit) ≡ testPlace (pieceTest k b (now (letters .entry)) segment) ⌝ }
 {
-    reader::call::piece(k, b, letters, segment, number, place)
+    pieces::piece(k, b, letters, segment, number, place)
 }
 
 // Answers where that piece starts and where it ends, or the refusal; for callers that take places and not a part.
 pub fn locate(k: u32, b: u32, letters: &[u8], segment: u32) -> Located
     ensures { λ r. ⌜ r ≡ locatedOf (pieceTest k b (now (letters .entry)) segment) (startOf (outcomesOf k b (now (letters .entry))) (segment - 1)) (pieceLength (outcomesOf k b (now (letters .entry))) (segment - 1)) ⌝ }
 {
-    reader::call::locate(k, b, letters, segment)
+    pieces::locate(k, b, letters, segment)
 }
 
 // Writes the label of k and B: four bytes, most significant first, at the front of `out`: edition 1 in 4 bits, k in 7, B in 8, and
