@@ -50,7 +50,7 @@ pub fn read_symbols(k: usize, l: usize, s: &[u8], message: &mut [u8], sheet: &mu
     let mut ends = [0usize; 64];
     let n = l * k;
     read_equal(k, l, s, &mut symbols[..n], &mut marks[..l], &mut ends[..l]);
-    symbols::pack(&symbols[..n], message);
+    packing::pack(&symbols[..n], message);
     sheet::pack_sheet(&marks[..l], sheet);
     sheet::counts_of(&marks[..l])
 }

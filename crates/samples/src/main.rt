@@ -33,7 +33,7 @@ fn letter(byte: u8) {
 fn byte(x: u8) {
     let bytes = [x];
     let mut four = [0u8; 4];
-    symbols::unpack(&bytes, &mut four);
+    packing::unpack(&bytes, &mut four);
     word(b"byte");
     number(x as u64);
     word(b" symbols");

@@ -18,7 +18,7 @@ use Rattle.equal_segments.proofs.read_symbols.Lts as lts
 use Rattle.equal_segments.proofs.read_equal.Reads as read-equal-reads
 use Rattle.sheet.proofs.counts_of.Reads as counts-of-reads
 use Rattle.sheet.proofs.pack_sheet.Reads as pack-sheet-reads
-use Rattle.symbols.proofs.pack.Reads as pack-reads
+use Rattle.packing.proofs.pack.Reads as pack-reads
 
 -- src/lib.rt:45:13
 mul-n : tie.Need-mul-n

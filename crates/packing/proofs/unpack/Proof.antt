@@ -7,9 +7,9 @@ use lib.Seq.{length-take-le}
 use Rattle.code.specs.Lists.{put-four, write-all}
 use Rattle.code.specs.Symbols.{symbols}
 use Rattle.code.specs.SymbolsLaws.{length-symbols}
-use Rattle.symbols.proofs.Steps.{mask-two, symbols-next}
-use Rattle.symbols.proofs.unpack.Statement.{statement}
-use Rattle.symbols.proofs.unpack.Tie as tie
+use Rattle.packing.proofs.Steps.{mask-two, symbols-next}
+use Rattle.packing.proofs.unpack.Statement.{statement}
+use Rattle.packing.proofs.unpack.Tie as tie
 
 abbrev Inv-loop : tie.InvT-loop
 Inv-loop bytes out₀ i₀ out i = (i ≤ length bytes) × (length out ≡ length out₀) × (out ≡ take (4 * i) (symbols bytes) ++ drop (4 * i) out₀)

@@ -6,9 +6,9 @@ use lib.ListN.{length, take, drop, length-set}
 use Rattle.code.specs.Lists.{write-all}
 use Rattle.code.specs.Symbols.{bytes}
 use Rattle.code.specs.SymbolsLaws.{length-bytes}
-use Rattle.symbols.proofs.Steps.{pack-step}
-use Rattle.symbols.proofs.pack.Statement.{statement}
-use Rattle.symbols.proofs.pack.Tie as tie
+use Rattle.packing.proofs.Steps.{pack-step}
+use Rattle.packing.proofs.pack.Statement.{statement}
+use Rattle.packing.proofs.pack.Tie as tie
 
 abbrev Inv-loop : tie.InvT-loop
 Inv-loop symbols out₀ n i₀ out i = (i ≤ n) × (length out ≡ length out₀) × (out ≡ take i (bytes symbols) ++ drop i out₀)

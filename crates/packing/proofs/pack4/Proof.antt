@@ -1,8 +1,8 @@
 use Prim.Native.Nat.{_<_}
 use native.Mathlib.Omega.{arith}
-use Rattle.symbols.proofs.Steps.{or-byte}
-use Rattle.symbols.proofs.pack4.Statement.{statement}
-use Rattle.symbols.proofs.pack4.Tie as tie
+use Rattle.packing.proofs.Steps.{or-byte}
+use Rattle.packing.proofs.pack4.Statement.{statement}
+use Rattle.packing.proofs.pack4.Tie as tie
 
 pub pack4-spec : {M : Type 1} → statement M
 pack4-spec =
