@@ -14,15 +14,12 @@ use Rattle.equal_segments.proofs.read_equal.Reads as reads
 use Rattle.equal_segments.proofs.read_equal.Lts as lts
 use Rattle.reading.proofs.walk.read_layout.Reads as read-layout-reads
 
--- src/lib.rt:30:32
 array-share-prefix-lengths : tie.Need-array-share-prefix-lengths
 array-share-prefix-lengths c = search needs
 
--- src/lib.rt:30:32
 slice-aggregate-read-layout : tie.Need-slice-aggregate-read-layout
 slice-aggregate-read-layout c = let a = c .before .before .before .before .before .args in sym (equal-length 64 (a .l) (a .k) (c .before .before .before .before .before .pre .1 .0 .2))
 
--- src/lib.rt:30:5
 read-layout-requires : tie.Need-read-layout-requires
 read-layout-requires c κs =
     let a = c .before .before .before .before .before .before .before .before .args in
@@ -31,19 +28,15 @@ read-layout-requires c κs =
     let n = equal-length 64 (a .l) (a .k) l in
     (h .0, (equal-within 64 (a .l) (a .k) l (h .1 .0 .0) (h .1 .0 .1), (omega arith, h .1 .1 .0 ∙ sym (equal-sum 64 (a .l) (a .k) l), h .1 .1 .1 ∙ sym n, h .1 .1 .2 ∙ sym n)))
 
--- src/lib.rt:14:1
 same-length : tie.Need-same-length
 same-length c = search needs
 
--- src/lib.rt:14:1
 same-length-2 : tie.Need-same-length-2
 same-length-2 c = search needs
 
--- src/lib.rt:14:1
 same-length-3 : tie.Need-same-length-3
 same-length-3 c = search needs
 
--- src/lib.rt:14:1
 returns : tie.Need-returns
 returns c =
     let a = c .before .before .before .before .before .before .before .before .before .before .before .before .before .before .before .args in

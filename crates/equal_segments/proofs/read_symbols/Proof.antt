@@ -20,90 +20,70 @@ use Rattle.sheet.proofs.counts_of.Reads as counts-of-reads
 use Rattle.sheet.proofs.pack_sheet.Reads as pack-sheet-reads
 use Rattle.packing.proofs.pack.Reads as pack-reads
 
--- src/lib.rt:45:13
 mul-n : tie.Need-mul-n
 mul-n c = search needs
 
--- src/lib.rt:50:9
 array-borrow-prefix-symbols : tie.Need-array-borrow-prefix-symbols
 array-borrow-prefix-symbols c = search needs
 
--- src/lib.rt:50:9
 slice-aggregate-read-equal : tie.Need-slice-aggregate-read-equal
 slice-aggregate-read-equal c = let a = c .before .before .before .before .args in sym (length-take-le (a .l * a .k) (replicate 512 0) (omega arith))
 
--- src/lib.rt:51:9
 array-borrow-prefix-marks : tie.Need-array-borrow-prefix-marks
 array-borrow-prefix-marks c = search needs
 
--- src/lib.rt:51:9
 slice-aggregate-read-equal-2 : tie.Need-slice-aggregate-read-equal-2
 slice-aggregate-read-equal-2 c = sym (length-take-le (c .before .before .before .before .before .args .l) (replicate 64 0) (omega arith))
 
--- src/lib.rt:52:9
 array-borrow-prefix-ends : tie.Need-array-borrow-prefix-ends
 array-borrow-prefix-ends c = search needs
 
--- src/lib.rt:52:9
 slice-aggregate-read-equal-3 : tie.Need-slice-aggregate-read-equal-3
 slice-aggregate-read-equal-3 c = sym (length-take-le (c .before .before .before .before .before .before .args .l) (replicate 64 0) (omega arith))
 
--- src/lib.rt:46:5
 read-equal-requires : tie.Need-read-equal-requires
 read-equal-requires c κs =
     let a = c .before .before .before .before .before .before .args in
     let h = c .before .before .before .before .before .before .pre in
     (h .0, ((h .1 .0 .0, h .1 .0 .1, h .1 .0 .2, h .1 .0 .4), (length-take-le (a .l * a .k) (replicate 512 0) (omega arith), length-take-le (a .l) (replicate 64 0) (omega arith), length-take-le (a .l) (replicate 64 0) (omega arith))))
 
--- src/lib.rt:54:19
 array-share-prefix-symbols : tie.Need-array-share-prefix-symbols
 array-share-prefix-symbols c = let a = c .before .before .before .before .before .before .before .before .before .before .args in front-inside _ _ _ (a .l * a .k) (c .before .before .before .read-equal .ensures .0) (messages-length (a .k) (a .l) (a .s .now) (c .before .before .before .before .before .before .before .before .before .before .pre .1 .0 .0))
 
--- src/lib.rt:54:19
 slice-aggregate-pack : tie.Need-slice-aggregate-pack
 slice-aggregate-pack c = let a = c .before .before .before .before .before .before .before .before .before .before .before .args in sym (front-length _ _ _ (a .l * a .k) (c .before .before .before .before .read-equal .ensures .0) (messages-length (a .k) (a .l) (a .s .now) (c .before .before .before .before .before .before .before .before .before .before .before .pre .1 .0 .0)))
 
--- src/lib.rt:54:5
 pack-requires : tie.Need-pack-requires
 pack-requires c κs =
     let a = c .before .before .before .before .before .before .before .before .before .before .before .before .args in
     (front-below _ _ _ (a .l * a .k) (c .before .before .before .before .before .read-equal .ensures .0) (messages-length (a .k) (a .l) (a .s .now) (c .before .before .before .before .before .before .before .before .before .before .before .before .pre .1 .0 .0)) (messages-below false 0 (replicate (a .l) (a .k)) (a .s .now) (a .s .now) (c .before .before .before .before .before .before .before .before .before .before .before .before .pre .0)), front-most _ _ _ (a .l * a .k) (c .before .before .before .before .before .read-equal .ensures .0) (messages-length (a .k) (a .l) (a .s .now) (c .before .before .before .before .before .before .before .before .before .before .before .before .pre .1 .0 .0)) (λ (n : ℕ). n / 4) _ (c .before .before .before .before .before .before .before .before .before .before .before .before .pre .1 .1 .0))
 
--- src/lib.rt:55:23
 array-share-prefix-marks : tie.Need-array-share-prefix-marks
 array-share-prefix-marks c = let a = c .before .before .before .before .before .before .before .before .before .before .before .before .before .before .before .args in front-inside _ _ _ (a .l) (c .before .before .before .before .before .before .before .before .read-equal .ensures .1 .0) (marks-length (a .k) (a .l) (a .s .now))
 
--- src/lib.rt:55:23
 slice-aggregate-pack-sheet : tie.Need-slice-aggregate-pack-sheet
 slice-aggregate-pack-sheet c = let a = c .before .before .before .before .before .before .before .before .before .before .before .before .before .before .before .before .args in sym (front-length _ _ _ (a .l) (c .before .before .before .before .before .before .before .before .before .read-equal .ensures .1 .0) (marks-length (a .k) (a .l) (a .s .now)))
 
--- src/lib.rt:55:5
 pack-sheet-requires : tie.Need-pack-sheet-requires
 pack-sheet-requires c κs =
     let a = c .before .before .before .before .before .before .before .before .before .before .before .before .before .before .before .before .before .args in
     (front-below _ _ _ (a .l) (c .before .before .before .before .before .before .before .before .before .before .read-equal .ensures .1 .0) (marks-length (a .k) (a .l) (a .s .now)) (marks-below (outcomes (replicate (a .l) (a .k)) (a .s .now))), (front-most _ _ _ (a .l) (c .before .before .before .before .before .before .before .before .before .before .read-equal .ensures .1 .0) (marks-length (a .k) (a .l) (a .s .now)) (λ (n : ℕ). n) _ (omega (arith, c .before .before .before .before .before .before .before .before .before .before .before .before .before .before .before .before .before .pre .1 .0 .2)), front-most _ _ _ (a .l) (c .before .before .before .before .before .before .before .before .before .before .read-equal .ensures .1 .0) (marks-length (a .k) (a .l) (a .s .now)) (λ (n : ℕ). (n + 3) / 4) _ (c .before .before .before .before .before .before .before .before .before .before .before .before .before .before .before .before .before .pre .1 .1 .1)))
 
--- src/lib.rt:56:22
 array-share-prefix-marks-2 : tie.Need-array-share-prefix-marks-2
 array-share-prefix-marks-2 c = let a = c .before .before .before .before .before .before .before .before .before .before .before .before .before .before .before .before .before .before .before .before .args in front-inside _ _ _ (a .l) (c .before .before .before .before .before .before .before .before .before .before .before .before .before .read-equal .ensures .1 .0) (marks-length (a .k) (a .l) (a .s .now))
 
--- src/lib.rt:56:22
 slice-aggregate-counts-of : tie.Need-slice-aggregate-counts-of
 slice-aggregate-counts-of c = let a = c .before .before .before .before .before .before .before .before .before .before .before .before .before .before .before .before .before .before .before .before .before .args in sym (front-length _ _ _ (a .l) (c .before .before .before .before .before .before .before .before .before .before .before .before .before .before .read-equal .ensures .1 .0) (marks-length (a .k) (a .l) (a .s .now)))
 
--- src/lib.rt:56:5
 counts-of-requires : tie.Need-counts-of-requires
 counts-of-requires c κs = let a = c .before .before .before .before .before .before .before .before .before .before .before .before .before .before .before .before .before .before .before .before .before .args in front-most _ _ _ (a .l) (c .before .before .before .before .before .before .before .before .before .before .before .before .before .before .read-equal .ensures .1 .0) (marks-length (a .k) (a .l) (a .s .now)) (λ (n : ℕ). n) _ (omega (arith, c .before .before .before .before .before .before .before .before .before .before .before .before .before .before .before .before .before .before .before .before .before .pre .1 .0 .2))
 
--- src/lib.rt:34:1
 same-length : tie.Need-same-length
 same-length c = search needs
 
--- src/lib.rt:34:1
 same-length-2 : tie.Need-same-length-2
 same-length-2 c = search needs
 
--- src/lib.rt:34:1
 returns : tie.Need-returns
 returns c =
     let a = c .before .before .before .before .before .before .before .before .before .before .before .before .before .before .before .before .before .before .before .before .before .before .args in

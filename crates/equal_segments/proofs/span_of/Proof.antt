@@ -13,69 +13,54 @@ use Rattle.equal_segments.proofs.span_of.Reads as reads
 use Rattle.equal_segments.proofs.span_of.Lts as lts
 use Rattle.equal_segments.proofs.read_equal.Reads as read-equal-reads
 
--- src/lib.rt:74:13
 mul-n : tie.Need-mul-n
 mul-n c = search needs
 
--- src/lib.rt:79:9
 array-borrow-prefix-symbols : tie.Need-array-borrow-prefix-symbols
 array-borrow-prefix-symbols c = search needs
 
--- src/lib.rt:79:9
 slice-aggregate-read-equal : tie.Need-slice-aggregate-read-equal
 slice-aggregate-read-equal c = let a = c .before .before .args in sym (length-take-le (a .l * a .k) (replicate 512 0) (omega arith))
 
--- src/lib.rt:80:9
 array-borrow-prefix-marks : tie.Need-array-borrow-prefix-marks
 array-borrow-prefix-marks c = search needs
 
--- src/lib.rt:80:9
 slice-aggregate-read-equal-2 : tie.Need-slice-aggregate-read-equal-2
 slice-aggregate-read-equal-2 c = sym (length-take-le (c .before .before .before .args .l) (replicate 64 0) (omega arith))
 
--- src/lib.rt:81:9
 array-borrow-prefix-ends : tie.Need-array-borrow-prefix-ends
 array-borrow-prefix-ends c = search needs
 
--- src/lib.rt:81:9
 slice-aggregate-read-equal-3 : tie.Need-slice-aggregate-read-equal-3
 slice-aggregate-read-equal-3 c = sym (length-take-le (c .before .before .before .before .args .l) (replicate 64 0) (omega arith))
 
--- src/lib.rt:75:5
 read-equal-requires : tie.Need-read-equal-requires
 read-equal-requires c κs =
     let a = c .before .before .before .before .args in
     let h = c .before .before .before .before .pre in
     (h .0, ((h .1 .0, h .1 .1, h .1 .2, h .1 .4), (length-take-le (a .l * a .k) (replicate 512 0) (omega arith), length-take-le (a .l) (replicate 64 0) (omega arith), length-take-le (a .l) (replicate 64 0) (omega arith))))
 
--- src/lib.rt:83:15
 mul-end : tie.Need-mul-end
 mul-end c = search needs
 
--- src/lib.rt:83:15
 array-read-end : tie.Need-array-read-end
 array-read-end c = search needs
 
--- src/lib.rt:85:9
 returns : tie.Need-returns
 returns c =
     let a = c .before .before .before .before .before .before .before .before .before .args in
     let os = outcomes (replicate (a .l) (a .k)) (a .s .now) in
     first-span _ _ os (c .before .before .before .before .read-equal .ensures .1 .1) (a .i) (c .if1 .taken) (rw (outcomes-length (a .k) (a .l) (a .s .now)) (c .before .before .before .before .before .before .before .before .before .pre .1 .5))
 
--- src/lib.rt:88:21
 sub-t17 : tie.Need-sub-t17
 sub-t17 c = search needs
 
--- src/lib.rt:88:16
 mul-t20 : tie.Need-mul-t20
 mul-t20 c = search needs
 
--- src/lib.rt:88:16
 array-read-t24 : tie.Need-array-read-t24
 array-read-t24 c = search needs
 
--- src/lib.rt:66:1
 returns-2 : tie.Need-returns-2
 returns-2 c =
     let a = c .before .before .before .before .before .before .before .before .before .args in

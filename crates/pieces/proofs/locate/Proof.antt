@@ -18,15 +18,12 @@ use Rattle.equal_segments.proofs.span_of.Reads as span-of-reads
 use Rattle.refusal.proofs.outside.Reads as outside-reads
 use Rattle.symbols.proofs.decode.Reads as decode-reads
 
--- src/lib.rt:70:9
 received-test-requires : tie.Need-received-test-requires
 received-test-requires c κs = search needs
 
--- src/lib.rt:71:29
 enum-known-received : tie.Need-enum-known-received
 enum-known-received c = search needs
 
--- src/lib.rt:72:9
 returns : tie.Need-returns
 returns c =
     let a = c .before .before .before .before .before .args in
@@ -35,21 +32,17 @@ returns c =
 enum-told : tie.Need-enum-told
 enum-told c = search needs
 
--- src/lib.rt:75:44
 slice-aggregate-decode : tie.Need-slice-aggregate-decode
 slice-aggregate-decode c = search needs
 
--- src/lib.rt:75:9
 decode-requires : tie.Need-decode-requires
 decode-requires c κs =
     let a = c .before .before .before .before .before .args in
     let f = received-fine (a .k) (a .b) (length (a .letters .now)) (sym (c .before .before .before .received-test .ensures) ∙ c .before .enum-told .given .1) in f .1
 
--- src/lib.rt:76:29
 enum-known-decoded : tie.Need-enum-known-decoded
 enum-known-decoded c = search needs
 
--- src/lib.rt:77:9
 returns-2 : tie.Need-returns-2
 returns-2 c =
     let a = c .before .before .before .before .before .before .before .before .before .before .args in
@@ -58,7 +51,6 @@ returns-2 c =
 enum-told-2 : tie.Need-enum-told-2
 enum-told-2 c = search needs
 
--- src/lib.rt:79:13
 mul-l : tie.Need-mul-l
 mul-l c =
     let a = c .before .before .before .before .before .before .before .before .before .args in
@@ -66,7 +58,6 @@ mul-l c =
     let o = order-fine (a .k) (a .b) false (f .0) in
     omega arith
 
--- src/lib.rt:79:13
 div-l : tie.Need-div-l
 div-l c =
     let a = c .before .before .before .before .before .before .before .before .before .args in
@@ -74,17 +65,14 @@ div-l c =
     let o = order-fine (a .k) (a .b) false (f .0) in
     omega arith
 
--- src/lib.rt:80:8
 outside-requires : tie.Need-outside-requires
 outside-requires c κs = search needs
 
--- src/lib.rt:81:9
 returns-3 : tie.Need-returns-3
 returns-3 c =
     let a = c .before .before .before .before .before .before .before .before .before .before .before .args in
     rw (piece-outside (a .k) (a .b) (a .letters .now) (sym (c .before .before .before .before .before .before .before .before .before .received-test .ensures) ∙ c .before .before .before .before .before .before .before .enum-told .given .1) (a .segment) (sym (c .before .before .before .before .before .decode .ensures .0) ∙ c .before .before .enum-told2 .given .1) (outside-is (a .k) (a .b) (a .segment) _ (c .before .outside .ensures) ∙ c .if1 .taken))
 
--- src/lib.rt:84:42
 cast-span-of : tie.Need-cast-span-of
 cast-span-of c =
     let a = c .before .before .before .before .before .before .before .before .before .before .before .args in
@@ -92,23 +80,19 @@ cast-span-of c =
     let o = order-fine (a .k) (a .b) false (f .0) in
     omega arith
 
--- src/lib.rt:84:54
 array-share-prefix-s : tie.Need-array-share-prefix-s
 array-share-prefix-s c =
     let a = c .before .before .before .before .before .before .before .before .before .before .before .args in
     decoded-inside _ (a .letters .now) _ (c .before .before .before .before .before .decode .ensures .1) (sym (c .before .before .before .before .before .decode .ensures .0) ∙ c .before .before .enum-told2 .given .1)
 
--- src/lib.rt:84:54
 slice-aggregate-span-of : tie.Need-slice-aggregate-span-of
 slice-aggregate-span-of c =
     let a = c .before .before .before .before .before .before .before .before .before .before .before .before .args in
     sym (length-take-le (length (a .letters .now)) _ (decoded-inside _ (a .letters .now) _ (c .before .before .before .before .before .before .decode .ensures .1) (sym (c .before .before .before .before .before .before .decode .ensures .0) ∙ c .before .before .before .enum-told2 .given .1)))
 
--- src/lib.rt:84:63
 sub-span-of : tie.Need-sub-span-of
 sub-span-of c = let i = outside-not 1 (4 * c .before .before .before .before .before .before .before .before .before .before .before .before .args .b / c .before .before .before .before .before .before .before .before .before .before .before .before .args .k) (c .before .before .before .before .before .before .before .before .before .before .before .before .args .segment) (sym (c .before .before .outside .ensures) ∙ c .before .if1 .left) in i .0
 
--- src/lib.rt:84:9
 span-of-requires : tie.Need-span-of-requires
 span-of-requires c κs =
     let a = c .before .before .before .before .before .before .before .before .before .before .before .before .args in
@@ -117,7 +101,6 @@ span-of-requires c κs =
     let i = outside-not 1 (4 * a .b / a .k) (a .segment) (sym (c .before .before .outside .ensures) ∙ c .before .if1 .left) in
     (decoded-below _ (a .letters .now) _ (c .before .before .before .before .before .before .decode .ensures .1) (sym (c .before .before .before .before .before .before .decode .ensures .0) ∙ c .before .before .before .enum-told2 .given .1), (o .least-length, o .most-length, o .most-segments, omega (arith, o .whole, o .most-bytes), decoded-most _ (a .letters .now) _ (c .before .before .before .before .before .before .decode .ensures .1) (sym (c .before .before .before .before .before .before .decode .ensures .0) ∙ c .before .before .before .enum-told2 .given .1) (f .1), omega (arith, i .0, i .1)))
 
--- src/lib.rt:67:1
 returns-4 : tie.Need-returns-4
 returns-4 c =
     let a = c .before .before .before .before .before .before .before .before .before .before .before .before .before .args in

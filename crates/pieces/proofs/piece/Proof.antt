@@ -10,64 +10,51 @@ use Rattle.pieces.proofs.locate.Reads as locate-reads
 use Rattle.refusal.proofs.number_of.Reads as number-of-reads
 use Rattle.refusal.proofs.place_of.Reads as place-of-reads
 
--- src/lib.rt:102:9
 locate-requires : tie.Need-locate-requires
 locate-requires c κs = search needs
 
--- src/lib.rt:104:21
 enum-known-located : tie.Need-enum-known-located
 enum-known-located c = search needs
 
--- src/lib.rt:107:13
 sub-result : tie.Need-sub-result
 sub-result c =
     let a = c .before .before .before .before .before .args in
     placed (a .k) (a .b) (a .letters .now) (a .segment) _ _ (sym (c .before .before .before .locate .ensures) ∙ c .before .located .given .1) .ordered
 
--- src/lib.rt:107:13
 part-result-start : tie.Need-part-result-start
 part-result-start c =
     let a = c .before .before .before .before .before .args in
     placed (a .k) (a .b) (a .letters .now) (a .segment) _ _ (sym (c .before .before .before .locate .ensures) ∙ c .before .located .given .1) .ordered
 
--- src/lib.rt:107:13
 part-result-end : tie.Need-part-result-end
 part-result-end c =
     let a = c .before .before .before .before .before .args in
     placed (a .k) (a .b) (a .letters .now) (a .segment) _ _ (sym (c .before .before .before .locate .ensures) ∙ c .before .located .given .1) .inside
 
--- src/lib.rt:109:26
 enum-known-located-2 : tie.Need-enum-known-located-2
 enum-known-located-2 c = search needs
 
--- src/lib.rt:110:23
 number-of-requires : tie.Need-number-of-requires
 number-of-requires c κs = search needs
 
--- src/lib.rt:111:22
 place-of-requires : tie.Need-place-of-requires
 place-of-requires c κs = search needs
 
--- src/lib.rt:112:13
 sub-result-2 : tie.Need-sub-result-2
 sub-result-2 c = search needs
 
--- src/lib.rt:112:13
 part-result-start-2 : tie.Need-part-result-start-2
 part-result-start-2 c = search needs
 
--- src/lib.rt:112:13
 part-result-end-2 : tie.Need-part-result-end-2
 part-result-end-2 c = search needs
 
--- src/lib.rt:90:1
 returns : tie.Need-returns
 returns c =
     let a = c .before .before .before .before .before .before .args in
     let p = placed (a .k) (a .b) (a .letters .now) (a .segment) _ _ (sym (c .before .before .before .before .locate .ensures) ∙ c .before .before .located .given .1) in
     rw (p .tested) (p .letters, (refl, refl))
 
--- src/lib.rt:90:1
 returns-2 : tie.Need-returns-2
 returns-2 c =
     let a = c .before .before .before .before .before .before .before .before .args in

@@ -18,15 +18,12 @@ use Rattle.received.proofs.short_buffers.Reads as short-buffers-reads
 use Rattle.equal_segments.proofs.read_symbols.Reads as read-symbols-reads
 use Rattle.symbols.proofs.decode.Reads as decode-reads
 
--- src/lib.rt:46:9
 received-test-requires : tie.Need-received-test-requires
 received-test-requires c κs = search needs
 
--- src/lib.rt:47:29
 enum-known-received : tie.Need-enum-known-received
 enum-known-received c = search needs
 
--- src/lib.rt:48:9
 returns : tie.Need-returns
 returns c =
     let a = c .before .before .before .before .before .before .before .args in
@@ -35,7 +32,6 @@ returns c =
 enum-told : tie.Need-enum-told
 enum-told c = search needs
 
--- src/lib.rt:50:14
 mul-l : tie.Need-mul-l
 mul-l c =
     let a = c .before .before .before .before .before .before .args in
@@ -43,7 +39,6 @@ mul-l c =
     let o = order-fine (a .k) (a .b) false (f .0) in
     omega arith
 
--- src/lib.rt:50:14
 div-l : tie.Need-div-l
 div-l c =
     let a = c .before .before .before .before .before .before .args in
@@ -51,7 +46,6 @@ div-l c =
     let o = order-fine (a .k) (a .b) false (f .0) in
     omega arith
 
--- src/lib.rt:50:13
 cast-l : tie.Need-cast-l
 cast-l c =
     let a = c .before .before .before .before .before .before .args in
@@ -59,7 +53,6 @@ cast-l c =
     let o = order-fine (a .k) (a .b) false (f .0) in
     omega arith
 
--- src/lib.rt:51:8
 short-buffers-requires : tie.Need-short-buffers-requires
 short-buffers-requires c κs =
     let a = c .before .before .before .before .before .before .args in
@@ -67,27 +60,22 @@ short-buffers-requires c κs =
     let o = order-fine (a .k) (a .b) false (f .0) in
     o .most-segments
 
--- src/lib.rt:52:9
 returns-2 : tie.Need-returns-2
 returns-2 c =
     let a = c .before .before .before .before .before .before .before .before .args in
     rw (read-short (a .k) (a .b) (a .letters .now) (sym (c .before .before .before .before .received-test .ensures) ∙ c .before .before .enum-told .given .1) (length (a .message .now)) (length (a .sheet .now)) (short-is (a .k) (a .b) (length (a .message .now)) (length (a .sheet .now)) _ (c .before .short-buffers .ensures) ∙ c .if1 .taken)) (refl, (refl, refl))
 
--- src/lib.rt:55:44
 slice-aggregate-decode : tie.Need-slice-aggregate-decode
 slice-aggregate-decode c = search needs
 
--- src/lib.rt:55:9
 decode-requires : tie.Need-decode-requires
 decode-requires c κs =
     let a = c .before .before .before .before .before .before .before .before .before .args in
     let f = received-fine (a .k) (a .b) (length (a .letters .now)) (sym (c .before .before .before .before .before .received-test .ensures) ∙ c .before .before .before .enum-told .given .1) in f .1
 
--- src/lib.rt:56:29
 enum-known-decoded : tie.Need-enum-known-decoded
 enum-known-decoded c = search needs
 
--- src/lib.rt:57:9
 returns-3 : tie.Need-returns-3
 returns-3 c =
     let a = c .before .before .before .before .before .before .before .before .before .before .before .before .before .before .args in
@@ -96,19 +84,16 @@ returns-3 c =
 enum-told-2 : tie.Need-enum-told-2
 enum-told-2 c = search needs
 
--- src/lib.rt:60:52
 array-share-prefix-s : tie.Need-array-share-prefix-s
 array-share-prefix-s c =
     let a = c .before .before .before .before .before .before .before .before .before .before .before .before .before .args in
     decoded-inside _ (a .letters .now) _ (c .before .before .before .decode .ensures .1) (sym (c .before .before .before .decode .ensures .0) ∙ c .enum-told2 .given .1)
 
--- src/lib.rt:60:52
 slice-aggregate-read-symbols : tie.Need-slice-aggregate-read-symbols
 slice-aggregate-read-symbols c =
     let a = c .before .before .before .before .before .before .before .before .before .before .before .before .before .before .args in
     sym (length-take-le (length (a .letters .now)) _ (decoded-inside _ (a .letters .now) _ (c .before .before .before .before .decode .ensures .1) (sym (c .before .before .before .before .decode .ensures .0) ∙ c .before .enum-told2 .given .1)))
 
--- src/lib.rt:60:9
 read-symbols-requires : tie.Need-read-symbols-requires
 read-symbols-requires c κs =
     let a = c .before .before .before .before .before .before .before .before .before .before .before .before .before .before .before .before .args in
@@ -117,15 +102,12 @@ read-symbols-requires c κs =
     let r = room (a .k) (a .b) (length (a .message .now)) (length (a .sheet .now)) o (short-is (a .k) (a .b) (length (a .message .now)) (length (a .sheet .now)) _ (c .before .before .before .before .before .before .before .before .before .short-buffers .ensures) ∙ c .before .before .before .before .before .before .before .before .if1 .left) in
     (decoded-below _ (a .letters .now) _ (c .before .before .before .before .before .before .decode .ensures .1) (sym (c .before .before .before .before .before .before .decode .ensures .0) ∙ c .before .before .before .enum-told2 .given .1), ((o .least-length, o .most-length, o .most-segments, omega (arith, o .whole, o .most-bytes), decoded-most _ (a .letters .now) _ (c .before .before .before .before .before .before .decode .ensures .1) (sym (c .before .before .before .before .before .before .decode .ensures .0) ∙ c .before .before .before .enum-told2 .given .1) (f .1)), r))
 
--- src/lib.rt:41:1
 same-length : tie.Need-same-length
 same-length c = search needs
 
--- src/lib.rt:41:1
 same-length-2 : tie.Need-same-length-2
 same-length-2 c = search needs
 
--- src/lib.rt:41:1
 returns-4 : tie.Need-returns-4
 returns-4 c =
     let a = c .before .before .before .before .before .before .before .before .before .before .before .before .before .before .before .before .before .before .before .before .before .args in

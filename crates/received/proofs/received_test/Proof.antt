@@ -14,15 +14,12 @@ use Rattle.received.proofs.received_test.Reads as reads
 use Rattle.received.proofs.received_test.Lts as lts
 use Rattle.refusal.proofs.order_test.Reads as order-test-reads
 
--- src/lib.rt:22:9
 order-test-requires : tie.Need-order-test-requires
 order-test-requires c κs = search needs
 
--- src/lib.rt:23:29
 enum-known-order : tie.Need-enum-known-order
 enum-known-order c = search needs
 
--- src/lib.rt:24:9
 returns : tie.Need-returns
 returns c =
     let a = c .before .before .before .before .args in
@@ -31,13 +28,11 @@ returns c =
 enum-told : tie.Need-enum-told
 enum-told c = search needs
 
--- src/lib.rt:27:9
 returns-2 : tie.Need-returns-2
 returns-2 c =
     let a = c .before .before .before .before .args in
     sym (order-then (a .k) (a .b) false (refuse (overlong (a .n)) Overlong Fine) (sym (c .before .before .before .order-test .ensures) ∙ c .before .enum-told .given .1) ∙ rw (lt-ltb _ _ (c .if1 .taken)))
 
--- src/lib.rt:19:1
 returns-3 : tie.Need-returns-3
 returns-3 c =
     let a = c .before .before .before .before .args in

@@ -6,15 +6,12 @@ use Rattle.received.proofs.short_buffers.Reads as reads
 use Rattle.received.proofs.short_buffers.Lts as lts
 use Rattle.sheet.proofs.sheet_bytes.Reads as sheet-bytes-reads
 
--- src/lib.rt:37:18
 sheet-bytes-requires : tie.Need-sheet-bytes-requires
 sheet-bytes-requires c κs = search needs
 
--- src/lib.rt:33:1
 returns : tie.Need-returns
 returns c = rw (lt-ltb _ _ (c .if1 .taken))
 
--- src/lib.rt:33:1
 returns-2 : tie.Need-returns-2
 returns-2 c = rw (le-ltb _ _ (c .before .if1 .left), c .sheet-bytes .ensures)
 
