@@ -11,9 +11,9 @@ use lib.ListN.{length, drop, drop-of-length-le}
 use Rattle.code.specs.declared.Refusal.the-variants.{Label}
 use Rattle.code.specs.declared.Order.the-variants as O
 use Rattle.code.specs.Label.{orderOf}
-use Rattle.text.specs.declared.Hex.the-variants.{Bytes, Bad}
-use Rattle.text.specs.Digits.{allDigits, hexBytes, decodable, hexOf, frontOf}
-use Rattle.text.specs.DigitsLaws.{length-hex-bytes}
+use Rattle.hex.specs.declared.Hex.the-variants.{Bytes, Bad}
+use Rattle.hex.specs.Digits.{allDigits, hexBytes, decodable, hexOf, frontOf}
+use Rattle.hex.specs.DigitsLaws.{length-hex-bytes}
 use Rattle.desk.specs.LabelLine.{labelled, orderLine}
 
 pub other-length : (line : List ℕ) → (length line ≡ 8 → ⊥) → O.Refused Label ≡ orderLine line

@@ -9,7 +9,7 @@ use Rattle.code.specs.declared.Refusal.the-variants.{Label}
 use Rattle.code.specs.declared.Order.{Order}
 use Rattle.code.specs.declared.Order.the-variants as O
 use Rattle.code.specs.Label.{orderOf}
-use Rattle.text.specs.Digits.{allDigits, hexBytes}
+use Rattle.hex.specs.Digits.{allDigits, hexBytes}
 
 -- k and B of a label's bytes, or refused 8 where the line is no label
 abbrev pub labelled : Bool → List ℕ → Order

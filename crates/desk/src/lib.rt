@@ -1,9 +1,9 @@
 // What both programs share: the label's line, the line for a refusal, and what is said to a wrong use.
 use code::Order;
 use code::Refusal;
+use hex::Hex;
 use libc::STDERR_FILENO;
 use libc::STDOUT_FILENO;
-use text::Hex;
 ghost use mathlib.Core.Path.{_≡_};
 ghost use Rattle.desk.specs.LabelLine.{orderLine};
 
@@ -41,7 +41,7 @@ pub fn order_of(line: &[u8]) -> Order
     if line.len() != 8 {
         return Order::Refused(Refusal::Label);
     }
-    let Hex::Bytes(_) = text::digits::decode(line, &mut label) else {
+    let Hex::Bytes(_) = hex::decode(line, &mut label) else {
         return Order::Refused(Refusal::Label);
     };
     dnalm::read_label(&label)

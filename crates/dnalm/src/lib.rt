@@ -29,7 +29,7 @@ pub fn write(k: u32, b: u32, message: &[u8], out: &mut [u8]) -> Wrote
     ensures { λ r. ⌜ r ≡ wroteOf (writeTest k b (now (message .entry)) (length (now (out .entry)))) (extent false (layoutOf k b)) ⌝ }
     ensures { λ _. ⌜ now (out .exit) ≡ bufferOf (writeTest k b (now (message .entry)) (length (now (out .entry)))) (strandOf (layoutOf k b) (now (message .entry))) (now (out .entry)) ⌝ }
 {
-    strand::writer::write(k, b, message, out)
+    strand::write(k, b, message, out)
 }
 
 // Reads a strand: the received `letters`, written for k = `k` and B = `b`. The B bytes of the message go to the front of `message`,
@@ -46,7 +46,7 @@ pub fn read(k: u32, b: u32, letters: &[u8], message: &mut [u8], sheet: &mut [u8]
     ensures { λ _. ⌜ now (sheet .exit) ≡ bufferOf (readTest k b (now (letters .entry)) (length (now (message .entry))) (length (now (sheet .entry)))) (sheetFor k b (now (letters .entry))) (now (sheet .entry)) ⌝ }
     ensures { λ r. ⌜ Demand-3-call k b (now (letters .entry)) r (now (message .entry)) (now (message .exit)) (now (sheet .entry)) (now (sheet .exit)) ⌝ }
 {
-    reader::call::read(k, b, letters, message, sheet)
+    reader::read(k, b, letters, message, sheet)
 }
 
 // Hands back the piece of a segment, from 1: its stretch of the caller's own `letters`, received for k and B; `number` and
@@ -65,14 +65,14 @@ pub fn piece<'a>(
     ensures { λ _. ⌜ now (number .exit) ≡ testNumber (pieceTest k b (now (letters .entry)) segment) ⌝ }
     ensures { λ _. ⌜ now (place .exit) ≡ testPlace (pieceTest k b (now (letters .entry)) segment) ⌝ }
 {
-    reader::call::piece(k, b, letters, segment, number, place)
+    pieces::piece(k, b, letters, segment, number, place)
 }
 
 // Answers where that piece starts and where it ends, or the refusal; for callers that take places and not a part.
 pub fn locate(k: u32, b: u32, letters: &[u8], segment: u32) -> Located
     ensures { λ r. ⌜ r ≡ locatedOf (pieceTest k b (now (letters .entry)) segment) (startOf (outcomesOf k b (now (letters .entry))) (segment - 1)) (pieceLength (outcomesOf k b (now (letters .entry))) (segment - 1)) ⌝ }
 {
-    reader::call::locate(k, b, letters, segment)
+    pieces::locate(k, b, letters, segment)
 }
 
 // Writes the label of k and B: four bytes, most significant first, at the front of `out`: edition 1 in 4 bits, k in 7, B in 8, and
@@ -84,7 +84,7 @@ pub fn write_label(k: u32, b: u32, out: &mut [u8]) -> Checked
     ensures { λ r. ⌜ r ≡ labelTest k b (length (now (out .entry))) ⌝ }
     ensures { λ _. ⌜ now (out .exit) ≡ bufferOf (labelTest k b (length (now (out .entry)))) (labelBytes k b) (now (out .entry)) ⌝ }
 {
-    strand::label::write(k, b, out)
+    label::write(k, b, out)
 }
 
 // Reads a label and answers its k and B. Bytes behind the first four are not read.
@@ -94,7 +94,7 @@ pub fn write_label(k: u32, b: u32, out: &mut [u8]) -> Checked
 pub fn read_label(bytes: &[u8]) -> Order
     ensures { λ r. ⌜ r ≡ orderOf (now (bytes .entry)) ⌝ }
 {
-    strand::label::read(bytes)
+    label::read(bytes)
 }
 
 // Adds the three counts of one reading to a tally, and one strand, and answers the new tally.
@@ -102,19 +102,19 @@ pub fn read_label(bytes: &[u8]) -> Order
 pub fn add_to_tally(t: Tally, clean: u32, corrected: u32, lost: u32) -> Tallied
     ensures { λ r. ⌜ r ≡ tallied t clean corrected lost ⌝ }
 {
-    strand::tally::add(t, clean, corrected, lost)
+    tally::add(t, clean, corrected, lost)
 }
 
 // The number of a refusal, 1 to 9.
 pub fn refusal_number(r: Refusal) -> u8
     ensures { λ n. ⌜ n ≡ numberOf r ⌝ }
 {
-    strand::refusal::number_of(r)
+    refusal::number_of(r)
 }
 
 // The place that a refusal names: for 6 that of the first foreign letter, from 0; for any other 0.
 pub fn refusal_place(r: Refusal) -> usize
     ensures { λ n. ⌜ n ≡ placeOf r ⌝ }
 {
-    strand::refusal::place_of(r)
+    refusal::place_of(r)
 }

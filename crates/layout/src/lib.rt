@@ -47,7 +47,7 @@ pub fn write_equal(k: usize, l: usize, message: &[u8], out: &mut [u8])
     ensures { λ _. ⌜ now (out .exit) ≡ strandOf (replicate l k) (now (message .entry)) ++ drop (extent false (replicate l k)) (now (out .entry)) ⌝ }
 {
     let mut buffer = [0u8; 512];
-    symbols::unpack(message, &mut buffer);
+    packing::unpack(message, &mut buffer);
     let n = 4 * message.len();
     let lengths = [k; 64];
     write_layout(&lengths[..l], &buffer[..n], out);

@@ -2,13 +2,13 @@
 use code::Counted;
 use code::Order;
 use desk::word;
-use text::Hex;
+use hex::Hex;
 
 // The bytes of a message, in upper-case digits.
 fn print_message(message: &[u8]) {
     let mut digits = [0u8; 256];
-    if let Hex::Bytes(n) = text::digits::encode(message, &mut digits) {
-        word(text::lines::front(&digits, n));
+    if let Hex::Bytes(n) = hex::encode(message, &mut digits) {
+        word(lines::front(&digits, n));
     }
     word(b"\n");
 }
@@ -30,7 +30,7 @@ fn print_strand(k: u32, b: u32, letters: &[u8]) {
     let mut sheet = [0u8; 16];
     match dnalm::read(k, b, letters, &mut message, &mut sheet) {
         Counted::Counts(clean, corrected, lost) => {
-            print_message(text::lines::front(&message, b as usize));
+            print_message(lines::front(&message, b as usize));
             print_counts(clean, corrected, lost);
         }
         Counted::Refused(r) => desk::refuse(r),
@@ -39,9 +39,9 @@ fn print_strand(k: u32, b: u32, letters: &[u8]) {
 
 // The same for the input's first two lines.
 fn print_input(input: &[u8]) {
-    let end = text::lines::line_end(input, 0);
-    let next = text::lines::next_line(input, end);
-    let last = text::lines::line_end(input, next);
+    let end = lines::line_end(input, 0);
+    let next = lines::next_line(input, end);
+    let last = lines::line_end(input, next);
     match desk::order_of(&input[0..end]) {
         Order::Is(k, b) => print_strand(k, b, &input[next..last]),
         Order::Refused(r) => desk::refuse(r),

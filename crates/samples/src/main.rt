@@ -33,7 +33,7 @@ fn letter(byte: u8) {
 fn byte(x: u8) {
     let bytes = [x];
     let mut four = [0u8; 4];
-    symbols::unpack(&bytes, &mut four);
+    packing::unpack(&bytes, &mut four);
     word(b"byte");
     number(x as u64);
     word(b" symbols");
@@ -98,7 +98,7 @@ fn written(k: u32, b: u32) {
     number(k as u64);
     word(b" B");
     number(b as u64);
-    match dnalm::write(k, b, text::lines::front(&message, b as usize), &mut out) {
+    match dnalm::write(k, b, lines::front(&message, b as usize), &mut out) {
         Wrote::Letters(n) => {
             word(b" letters");
             number(n as u64);

@@ -46,7 +46,7 @@ pub fn pack_sheet(marks: &[u8], out: &mut [u8])
         let b = mark_at(marks, j + 1);
         let c = mark_at(marks, j + 2);
         let d = mark_at(marks, j + 3);
-        out[i] = symbols::pack4(a, b, c, d);
+        out[i] = packing::pack4(a, b, c, d);
         i += 1;
     }
 }

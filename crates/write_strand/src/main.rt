@@ -3,14 +3,14 @@ use code::Order;
 use code::Refusal;
 use code::Wrote;
 use desk::word;
-use text::Hex;
+use hex::Hex;
 
 // The strand of a message for k and B.
 fn print_strand(k: u32, b: u32, message: &[u8]) {
     let mut strand = [0u8; 2048];
     match dnalm::write(k, b, message, &mut strand) {
         Wrote::Letters(n) => {
-            word(text::lines::front(&strand, n));
+            word(lines::front(&strand, n));
             word(b"\n");
         }
         Wrote::Refused(r) => desk::refuse(r),
@@ -20,17 +20,17 @@ fn print_strand(k: u32, b: u32, message: &[u8]) {
 // The same for the line that holds the message: at most 128 bytes, two digits each, or refused 2.
 fn print_message(k: u32, b: u32, line: &[u8]) {
     let mut message = [0u8; 128];
-    match text::digits::decode(line, &mut message) {
-        Hex::Bytes(n) => print_strand(k, b, text::lines::front(&message, n)),
+    match hex::decode(line, &mut message) {
+        Hex::Bytes(n) => print_strand(k, b, lines::front(&message, n)),
         Hex::Bad => desk::refuse(Refusal::MessageSize),
     }
 }
 
 // The same for the input's first two lines.
 fn print_input(input: &[u8]) {
-    let end = text::lines::line_end(input, 0);
-    let next = text::lines::next_line(input, end);
-    let last = text::lines::line_end(input, next);
+    let end = lines::line_end(input, 0);
+    let next = lines::next_line(input, end);
+    let last = lines::line_end(input, next);
     match desk::order_of(&input[0..end]) {
         Order::Is(k, b) => print_message(k, b, &input[next..last]),
         Order::Refused(r) => desk::refuse(r),

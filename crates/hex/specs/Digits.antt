@@ -1,0 +1,50 @@
+-- Hexadecimal digits, two to a byte, the higher first.
+--   allDigits   all bytes are digits
+--   hexBytes    the bytes of digits
+--   hexDigits   the upper-case digits of bytes
+--   decodable   digits that can be put as bytes into a buffer
+--   encodable   bytes that can be put as digits into a buffer
+--   hexOf       the answer to a test
+--   frontOf     the lent buffer afterwards
+use mathlib.Core.Bool.{Bool, true, false, _&&_}
+use mathlib.Core.List.{List, [], _∷_, _++_}
+use Prim.Native.Nat.{ℕ, _+_, _*_, _/_, _%_}
+use lib.Dec.{eqb, ltb, leb}
+use lib.ListN.{length, drop}
+use Rattle.digit.specs.Digit.{noDigit, valueOf, digitOf}
+use Rattle.hex.specs.declared.Hex.{Hex}
+use Rattle.hex.specs.declared.Hex.the-variants.{Bytes, Bad}
+
+-- all bytes are digits
+unfoldable pub allDigits : List ℕ → Bool
+allDigits [] = true
+allDigits (c ∷ cs) = ltb (valueOf c) noDigit && allDigits cs
+
+-- the bytes of digits, two to a byte, the higher first
+unfoldable pub hexBytes : List ℕ → List ℕ
+hexBytes [] = []
+hexBytes (a ∷ []) = []
+hexBytes (a ∷ b ∷ cs) = (16 * valueOf a + valueOf b) ∷ hexBytes cs
+
+-- the upper-case digits of bytes
+unfoldable pub hexDigits : List ℕ → List ℕ
+hexDigits [] = []
+hexDigits (x ∷ xs) = digitOf (x / 16) ∷ digitOf (x % 16) ∷ hexDigits xs
+
+-- an even number of digits and nothing else, whose bytes a buffer of n bytes holds
+abbrev pub decodable : List ℕ → ℕ → Bool
+decodable cs n = eqb (length cs % 2) 0 && allDigits cs && leb (length cs / 2) n
+
+-- bytes whose digits a buffer of n bytes holds
+abbrev pub encodable : List ℕ → ℕ → Bool
+encodable bs n = leb (2 * length bs) n
+
+-- how many bytes were written, or that none were
+abbrev pub hexOf : Bool → ℕ → Hex
+hexOf true n = Bytes n
+hexOf false n = Bad
+
+-- a buffer after a call: new bytes at its front, or unchanged
+abbrev pub frontOf : Bool → List ℕ → List ℕ → List ℕ
+frontOf true new old = new ++ drop (length new) old
+frontOf false new old = old

@@ -1,0 +1,85 @@
+// Hexadecimal digits, two to a byte, the higher first.
+use digit::NO_DIGIT;
+use digit::digit_of;
+use digit::value_of;
+ghost use mathlib.Core.Path.{_≡_};
+ghost use mathlib.Core.Bool.{true};
+ghost use mathlib.Core.List.{_++_};
+ghost use Prim.Native.Nat.{_*_, _/_, _≤_};
+ghost use lib.ListN.{length, drop};
+ghost use Rattle.hex.specs.Digits.{allDigits, hexBytes, hexDigits, decodable, encodable, hexOf, frontOf};
+
+// How many bytes were put to the front of a buffer, or that none were.
+pub enum Hex {
+    Bytes(usize),
+    Bad,
+}
+
+// All bytes are digits.
+pub fn all_digits(text: &[u8]) -> bool
+    ensures { λ r. ⌜ r ≡ allDigits (now (text .entry)) ⌝ }
+{
+    let mut i = 0;
+    while i < text.len() {
+        let v = value_of(text[i]);
+        if NO_DIGIT <= v {
+            return false;
+        }
+        i += 1;
+    }
+    true
+}
+
+// The bytes of digits, two to a byte, at the front of `out`.
+fn put_bytes(digits: &[u8], out: &mut [u8])
+    requires { ⌜ allDigits (now digits) ≡ true ⌝ }
+    requires { ⌜ length (now digits) / 2 ≤ length (now out) ⌝ }
+    ensures { λ _. ⌜ now (out .exit) ≡ hexBytes (now (digits .entry)) ++ drop (length (now (digits .entry)) / 2) (now (out .entry)) ⌝ }
+{
+    let n = digits.len() / 2;
+    let mut i = 0;
+    while i < n {
+        let j = 2 * i;
+        let high = value_of(digits[j]);
+        let low = value_of(digits[j + 1]);
+        out[i] = 16 * high + low;
+        i += 1;
+    }
+}
+
+// The bytes of a text of digits of either case, at the front of `out`, and their number. Bad, with `out` as it was, is an odd
+// number of digits, a byte that is no digit, or more bytes than `out` has.
+pub fn decode(text: &[u8], out: &mut [u8]) -> Hex
+    ensures { λ r. ⌜ (r ≡ hexOf (decodable (now (text .entry)) (length (now (out .entry)))) (length (now (text .entry)) / 2)) × (now (out .exit) ≡ frontOf (decodable (now (text .entry)) (length (now (out .entry)))) (hexBytes (now (text .entry))) (now (out .entry))) ⌝ }
+{
+    let n = text.len() / 2;
+    if text.len() % 2 != 0 {
+        return Hex::Bad;
+    }
+    if !all_digits(text) {
+        return Hex::Bad;
+    }
+    if out.len() < n {
+        return Hex::Bad;
+    }
+    put_bytes(text, out);
+    Hex::Bytes(n)
+}
+
+// The upper-case digits of bytes, at the front of `out`, and their number. Bad, with `out` as it was, where it has no room.
+pub fn encode(bytes: &[u8], out: &mut [u8]) -> Hex
+    ensures { λ r. ⌜ (r ≡ hexOf (encodable (now (bytes .entry)) (length (now (out .entry)))) (2 * length (now (bytes .entry)))) × (now (out .exit) ≡ frontOf (encodable (now (bytes .entry)) (length (now (out .entry)))) (hexDigits (now (bytes .entry))) (now (out .entry))) ⌝ }
+{
+    if out.len() / 2 < bytes.len() {
+        return Hex::Bad;
+    }
+    let mut i = 0;
+    while i < bytes.len() {
+        let x = bytes[i];
+        let j = 2 * i;
+        out[j] = digit_of(x / 16);
+        out[j + 1] = digit_of(x % 16);
+        i += 1;
+    }
+    Hex::Bytes(2 * i)
+}

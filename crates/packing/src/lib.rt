@@ -1,0 +1,46 @@
+// Symbols and bytes, four symbols to a byte.
+ghost use mathlib.Core.Path.{_≡_};
+ghost use mathlib.Core.List.{_++_};
+ghost use Prim.Native.Nat.{_*_, _/_, _<_, _≤_};
+ghost use lib.ListN.{length, drop};
+ghost use Rattle.code.specs.Symbols.{Below, byteOf, symbols, bytes};
+
+// The byte of four symbols, the first in its highest two bits.
+pub fn pack4(a: u8, b: u8, c: u8, d: u8) -> u8
+    requires { ⌜ (a < 4) × (b < 4) × (c < 4) × (d < 4) ⌝ }
+    ensures { λ r. ⌜ r ≡ byteOf a b c d ⌝ }
+{
+    (a << 6) | (b << 4) | (c << 2) | d
+}
+
+// The symbols of bytes, four to a byte, at the front of `out`.
+pub fn unpack(bytes: &[u8], out: &mut [u8])
+    requires { ⌜ 4 * length (now bytes) ≤ length (now out) ⌝ }
+    ensures { λ _. ⌜ now (out .exit) ≡ symbols (now (bytes .entry)) ++ drop (4 * length (now (bytes .entry))) (now (out .entry)) ⌝ }
+{
+    let mut i = 0;
+    while i < bytes.len() {
+        let x = bytes[i];
+        let j = 4 * i;
+        out[j] = x >> 6;
+        out[j + 1] = (x >> 4) & 3;
+        out[j + 2] = (x >> 2) & 3;
+        out[j + 3] = x & 3;
+        i += 1;
+    }
+}
+
+// The bytes of symbols, four symbols to a byte, at the front of `out`.
+pub fn pack(symbols: &[u8], out: &mut [u8])
+    requires { ⌜ Below 4 (now symbols) ⌝ }
+    requires { ⌜ length (now symbols) / 4 ≤ length (now out) ⌝ }
+    ensures { λ _. ⌜ now (out .exit) ≡ bytes (now (symbols .entry)) ++ drop (length (now (symbols .entry)) / 4) (now (out .entry)) ⌝ }
+{
+    let n = symbols.len() / 4;
+    let mut i = 0;
+    while i < n {
+        let j = 4 * i;
+        out[i] = pack4(symbols[j], symbols[j + 1], symbols[j + 2], symbols[j + 3]);
+        i += 1;
+    }
+}

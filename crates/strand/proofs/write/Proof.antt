@@ -1,0 +1,61 @@
+use mathlib.Core.Path.{refl, sym, ap, _∙_}
+use mathlib.Core.Bool.{not}
+use native.Mathlib.Omega.{arith}
+use borrow.Author.Needs.{needs}
+use lib.Dec.{eqb}
+use lib.ListN.{length}
+use Rattle.code.specs.declared.Wrote.the-variants as W
+use Rattle.code.specs.Layout.{layoutOf}
+use Rattle.code.specs.RefusalsLaws.{order-fine}
+use Rattle.code.specs.WritingLaws.{length-strand, write-refused, write-short, write-fine, ordered-length, ordered-sum}
+use Rattle.strand.proofs.write.Statement.{statement}
+use Rattle.strand.proofs.write.Tie as tie
+
+pub write-spec : {M : Type 1} → statement M
+write-spec =
+    tie.close
+    (tie.spec
+    (λ c κs. search needs)
+    (λ c. search needs)
+    (λ c.
+    let a = c .before .before .before .before .before .before .args in
+    let e = sym (c .before .before .before .order-test .ensures) ∙ c .before .order .given .1 in
+    rw (write-refused (a .k) (a .b) (a .message .now) (length (a .out .now)) _ e) (refl, refl))
+    (λ c. search needs)
+    (λ c.
+    let a = c .before .before .before .before .before .args in
+    let e = sym (c .before .before .order-test .ensures) ∙ c .enum-told .given .1 in
+    let o = order-fine (a .k) (a .b) (not (eqb (length (a .message .now)) (a .b))) e in
+    omega arith)
+    (λ c.
+    let a = c .before .before .before .before .before .args in
+    let e = sym (c .before .before .order-test .ensures) ∙ c .enum-told .given .1 in
+    let o = order-fine (a .k) (a .b) (not (eqb (length (a .message .now)) (a .b))) e in
+    omega arith)
+    (λ c.
+    let a = c .before .before .before .before .before .args in
+    let e = sym (c .before .before .order-test .ensures) ∙ c .enum-told .given .1 in
+    let o = order-fine (a .k) (a .b) (not (eqb (length (a .message .now)) (a .b))) e in
+    omega arith)
+    (λ c κs.
+    let a = c .before .before .before .before .before .args in
+    let e = sym (c .before .before .order-test .ensures) ∙ c .enum-told .given .1 in
+    let o = order-fine (a .k) (a .b) (not (eqb (length (a .message .now)) (a .b))) e in
+    (omega arith, omega arith, omega arith, omega arith))
+    (λ c.
+    let a = c .before .before .before .before .before .before .before .args in
+    let e = sym (c .before .before .before .before .order-test .ensures) ∙ c .before .before .enum-told .given .1 in
+    rw (write-short (a .k) (a .b) (a .message .now) (length (a .out .now)) e (omega (arith, c .before .extent-of .ensures))) (refl, refl))
+    (λ c κs.
+    let a = c .before .before .before .before .before .before .before .before .args in
+    let e = sym (c .before .before .before .before .before .order-test .ensures) ∙ c .before .before .before .enum-told .given .1 in
+    let o = order-fine (a .k) (a .b) (not (eqb (length (a .message .now)) (a .b))) e in
+    let h = ordered-length (a .k) (a .b) (a .message .now) 0 e in
+    ((o .least-length, o .most-length, o .most-segments), (omega arith, o .whole ∙ omega arith, omega (arith, c .before .before .extent-of .ensures))))
+    (λ c. search needs)
+    (λ c.
+    let a = c .before .before .before .before .before .before .before .before .before .before .before .args in
+    let x = c .before .before .before .before .before .extent-of .ensures in
+    let e = sym (c .before .before .before .before .before .before .before .before .order-test .ensures) ∙ c .before .before .before .before .before .before .enum-told .given .1 in
+    let n = length-strand (layoutOf (a .k) (a .b)) (a .message .now) (ordered-sum (a .k) (a .b) (a .message .now) 0 e) in
+    rw (write-fine (a .k) (a .b) (a .message .now) (length (a .out .now)) e (omega arith), n) (ap W.Letters x, c .before .before .write-equal .ensures)))

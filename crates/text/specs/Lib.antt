@@ -1,4 +1,0 @@
-pub mod Lines
-pub mod LinesLaws
-pub mod Digits
-pub mod DigitsLaws
