@@ -1,23 +1,29 @@
 -- A written segment stands where its parts do.
---   part-missing, part-stands         a block in two parts
---   tail-missing, tail-seen           a tail
---   marker-seen, no-marker            the marker
---   segment-missing, segment-seen     the segment
-use mathlib.Core.Path.{_≡_, refl, sym, ap, _∙_}
+--   Left                     the syndrome symbols that are compared, from the last on
+--   tail-seen                check, separator and syndrome stand
+--   marker-seen, no-marker   the marker stands
+--   segment-seen             the segment stands
+use mathlib.Core.Path.{_≡_, refl, sym, ap, subst, _∙_}
 use mathlib.Core.Bool.{Bool, true, false, true≢false, _&&_}
-use mathlib.Core.List.{List, [], _∷_, _++_}
-use Prim.Native.Nat.{ℕ, _+_, _≤_}
+use mathlib.Core.List.{List, [], _∷_, _++_, append-assoc, append-nil}
+use Prim.Native.Nat.{ℕ, zero, suc, _+_, _-_, _*_, _/_, _≤_, _<_}
+use borrow.Author.Tests.{eq-eqb}
+use lib.Bits.{bitAnd}
 use native.Mathlib.Omega.{arith}
 use lib.Dec.{eqb}
-use lib.ListN.{length, getD, take, drop, length-take}
-use lib.Seq.{drop-drop, getD-drop, getD-take}
-use Rattle.code.specs.LayersLaws.{width-least}
-use Rattle.code.specs.Segment.{sep, marker, segment}
+use lib.ListN.{length, getD, take, drop, List·getD-append}
+use lib.Seq.{drop-cons, drop-drop, getD-drop, getD-take}
+use Rattle.code.specs.Layers.{syndrome, pair, bits, width}
+use Rattle.code.specs.Segment.{check, sep, separator, syndromeOf, marker, block, segment}
+use Rattle.code.specs.SegmentLaws.{length-syndrome, width-two}
 use Rattle.code.specs.Reading.{starts, dataAt}
-use Rattle.segment.specs.declared.Tail.{Tail}
-use Rattle.segment.specs.Tails.{mark, IsTail, tailOf}
-use Rattle.segment.proofs.Tails.{tail-symbols, marked-block}
-use Rattle.scan.specs.ScansLaws.{starts-behind}
+use Rattle.code.specs.ReadingLaws.{starts-split}
+use Rattle.layers.specs.declared.Layers.{Layers}
+use Rattle.layers.specs.Answers.{both}
+use Rattle.segment.specs.Tails.{mark}
+use Rattle.segment.proofs.Tails.{marked-block}
+use Rattle.segment.proofs.Steps.{bits-last}
+use Rattle.scan.specs.ScansLaws.{tailFor, starts-behind}
 
 starts-append : (a b s : List ℕ) → starts (a ++ b) s ≡ (starts a s && starts b (drop (length a) s))
 unfolding starts
@@ -29,21 +35,67 @@ starts-append (x ∷ a) b (y ∷ s) = go (eqb x y) (starts-append a b s)
     go true h = h
     go false h = refl
 
-module _ (a b s : List ℕ) (x : Bool) (is : x ≡ starts a s) where
-  part-missing : x ≡ false → false ≡ starts (a ++ b) s
-  part-missing e = sym (starts-append a b s ∙ rw (← is, e))
+-- a block in two parts stands where both do
+both-stand : (a b s : List ℕ) → starts a s ≡ true → starts b (drop (length a) s) ≡ true → starts (a ++ b) s ≡ true
+both-stand a b s e f = starts-append a b s ∙ rw (e, f)
 
-  part-stands : x ≡ true → starts b (drop (length a) s) ≡ starts (a ++ b) s
-  part-stands e = sym (starts-append a b s ∙ rw (← is, e))
+module _ (s : List ℕ) (at t high low : ℕ) where
+  -- the symbols from place i on stand, and those before it are of what is left of both numbers
+  pub record Left (i h l : ℕ) : Type 0 where
+    pub inside : i ≤ t
+    seen : List ℕ
+    whole : pair (bits t high) (bits t low) ≡ pair (bits i h) (bits i l) ++ seen
+    stand : starts seen (drop (at + i) s) ≡ true
 
-module _ (t : Tail) (s : List ℕ) (at : ℕ) (x : Bool) (is : x ≡ starts (t .check ∷ t .separator ∷ t .separator ∷ t .separator ∷ []) (drop at s)) where
-  pub tail-missing : x ≡ false → false ≡ starts (tailOf t) (drop at s)
-  unfolding tailOf
-  tail-missing e = part-missing (t .check ∷ t .separator ∷ t .separator ∷ t .separator ∷ []) (take (t .width) (t .syndrome)) (drop at s) x is e
+  pub left-begin : Left t high low
+  unfolding starts
+  left-begin = record { inside = omega arith; seen = []; whole = sym (append-nil (pair (bits t high) (bits t low))); stand = refl }
 
-  pub tail-seen : x ≡ true → (r : Bool) → r ≡ starts (take (t .width) (t .syndrome)) (drop (at + 4) s) → r ≡ starts (tailOf t) (drop at s)
-  unfolding tailOf
-  tail-seen e r h = h ∙ rw (← drop-drop 4 at s) (part-stands (t .check ∷ t .separator ∷ t .separator ∷ t .separator ∷ []) (take (t .width) (t .syndrome)) (drop at s) x is e)
+  pub left-turn : (i h l : ℕ) → 0 < i → at + t ≤ length s → Left i h l → 2 * bitAnd h 1 + bitAnd l 1 ≡ getD s (at + (i - 1)) 0 → Left (i - 1) (h / 2) (l / 2)
+  unfolding starts
+  left-turn i h l some room r same =
+      let x = 2 * bitAnd h 1 + bitAnd l 1 in
+      let n = i - 1 in
+      let v = r .seen in
+      let more : i ≡ suc n = omega arith in
+      let last : pair (bits i h) (bits i l) ≡ pair (bits n (h / 2)) (bits n (l / 2)) ++ x ∷ [] = ap (λ (j : ℕ). pair (bits j h) (bits j l)) more ∙ bits-last n h l in
+      let next : suc (at + n) ≡ at + i = omega arith in
+      let here : drop (at + n) s ≡ x ∷ drop (at + i) s = drop-cons s (at + n) 0 (omega (arith, r .inside)) ∙ (ap (λ (y : ℕ). y ∷ drop (suc (at + n)) s) (sym same) ∙ ap (λ (j : ℕ). x ∷ drop j s) next) in
+      record {
+        inside = omega (arith, r .inside);
+        seen = x ∷ v;
+        whole = r .whole ∙ (ap (λ (w : List ℕ). w ++ v) last ∙ append-assoc (pair (bits n (h / 2)) (bits n (l / 2))) (x ∷ []) v);
+        stand = rw (here, eq-eqb x x refl) (r .stand);
+      }
+
+  pub left-end : (i h l : ℕ) → i ≡ 0 → Left i h l → starts (pair (bits t high) (bits t low)) (drop at s) ≡ true
+  unfolding pair bits
+  left-end i h l e r =
+      let w : pair (bits t high) (bits t low) ≡ r .seen = r .whole ∙ ap (λ (j : ℕ). pair (bits j h) (bits j l) ++ r .seen) e in
+      let a : at + i ≡ at = omega arith in
+      rw (w, ← a) (r .stand)
+
+pub numbers-symbols : (m : List ℕ) (n : Layers) (t : ℕ) → t ≡ width (length m) → n ≡ both syndrome m → pair (bits t (n .high)) (bits t (n .low)) ≡ syndromeOf m
+unfolding syndromeOf
+numbers-symbols m n t e f = rw (f, e)
+
+-- check, separator and syndrome of a message stand at a place
+module _ (m s : List ℕ) (at : ℕ) (two : 2 ≤ length m) (there : starts (syndromeOf m) (drop (at + 4) s) ≡ true) where
+  -- a symbol of the syndrome is that of the strand
+  symbol-there : (i : ℕ) → i < width (length m) → getD s (at + 4 + i) 0 ≡ getD (syndromeOf m) i 0
+  symbol-there i h =
+      sym (getD-drop (at + 4) s i 0) ∙ (ap (λ (l : List ℕ). getD l i 0) (starts-split (syndromeOf m) (drop (at + 4) s) there) ∙ List·getD-append (syndromeOf m) (drop (length (syndromeOf m)) (drop (at + 4) s)) 0 i (omega (arith, length-syndrome m)))
+
+  pub tail-seen : (c x : ℕ) → c ≡ check m → x ≡ sep c (getD s (at + 4) 0) (getD s (at + 5) 0) → starts (c ∷ x ∷ x ∷ x ∷ []) (drop at s) ≡ true → starts (tailFor m) (drop at s) ≡ true
+  unfolding separator
+  tail-seen c x ec ex h =
+      let w = width-two (length m) two in
+      let four : at + 4 ≡ at + 4 + 0 = omega arith in
+      let five : at + 5 ≡ at + 4 + 1 = omega arith in
+      let first : getD s (at + 4) 0 ≡ getD (syndromeOf m) 0 0 = ap (λ (j : ℕ). getD s j 0) four ∙ symbol-there 0 (omega arith) in
+      let second : getD s (at + 5) 0 ≡ getD (syndromeOf m) 1 0 = ap (λ (j : ℕ). getD s j 0) five ∙ symbol-there 1 (omega arith) in
+      let q : x ≡ separator m = ex ∙ rw (ec, first, second) in
+      rw (← q, ← ec) (both-stand (c ∷ x ∷ x ∷ x ∷ []) (syndromeOf m) (drop at s) h (rw (drop-drop 4 at s) there))
 
 -- a marker and two symbols behind it are inside
 pub marker-room : (marked : Bool) (p n : ℕ) → marked ≡ true → p + dataAt marked + 2 ≤ n → p + 4 ≤ n
@@ -66,31 +118,25 @@ module _ (marked : Bool) (f p : ℕ) (s : List ℕ) where
   no-marker e = rw e
 
   -- the k symbols at D
-  module _ (k : ℕ) (two : 2 ≤ k) (x : Bool) (is : x ≡ starts (mark marked f D) (drop p s)) (t : Tail) (tail : IsTail (take k D) t) where
+  module _ (k : ℕ) (two : 2 ≤ k) where
     same-mark : (b : Bool) → mark b f (take k D) ≡ mark b f D
     unfolding mark marker
     same-mark true = rw (getD-take k D 0 0 (omega arith), getD-take k D 1 0 (omega arith))
     same-mark false = refl
 
-    parts : mark marked f D ++ (take k D ++ tailOf t) ≡ segment marked f (take k D)
-    parts = ap (λ (l : List ℕ). l ++ (take k D ++ tailOf t)) (sym (same-mark marked)) ∙ (ap (_++_ (mark marked f (take k D))) (tail-symbols (take k D) t tail) ∙ marked-block marked f (take k D))
-
-    pub segment-missing : x ≡ false → false ≡ starts (segment marked f (take k D)) (drop p s)
-    segment-missing e = part-missing (mark marked f D) (take k D ++ tailOf t) (drop p s) x is e ∙ ap (λ (l : List ℕ). starts l (drop p s)) parts
+    parts : mark marked f D ++ (take k D ++ tailFor (take k D)) ≡ segment marked f (take k D)
+    unfolding block
+    parts = ap (λ (l : List ℕ). l ++ (take k D ++ tailFor (take k D))) (sym (same-mark marked)) ∙ marked-block marked f (take k D)
 
     mark-length : (b : Bool) (l : List ℕ) → length (mark b f l) ≡ dataAt b
     unfolding mark
     mark-length true l = refl
     mark-length false l = refl
 
-    pub segment-seen : x ≡ true → (at : ℕ) → at ≡ p + dataAt marked + k → (r : Bool) → r ≡ starts (tailOf t) (drop at s) → r ≡ starts (segment marked f (take k D)) (drop p s)
-    segment-seen e at where-is r h =
-        let behind : drop at s ≡ drop k D = ap (λ (n : ℕ). drop n s) where-is ∙ (sym (drop-drop k (p + dataAt marked) s) ∙ ap (drop k) (sym (drop-drop (dataAt marked) p s))) in
-        let front : starts (take k D ++ tailOf t) D ≡ starts (segment marked f (take k D)) (drop p s) = ap (λ (n : ℕ). starts (take k D ++ tailOf t) (drop n (drop p s))) (sym (mark-length marked D)) ∙ (part-stands (mark marked f D) (take k D ++ tailOf t) (drop p s) x is e ∙ ap (λ (l : List ℕ). starts l (drop p s)) parts) in
-        h ∙ (ap (starts (tailOf t)) behind ∙ (sym (starts-behind k D (tailOf t)) ∙ front))
-
--- a tail of at most 4096 symbols fits its array
-pub tail-room : (marked : Bool) (p : ℕ) (s : List ℕ) (k : ℕ) (t : Tail) → k ≤ 4096 → IsTail (take k (drop (dataAt marked) (drop p s))) t → t .width ≤ 16
-tail-room marked p s k t h e =
-    let m = take k (drop (dataAt marked) (drop p s)) in
-    omega (arith, e .width, width-least (length m) .least 16 (simp length-take (omega arith)))
+    pub segment-seen : (d at : ℕ) → d ≡ p + dataAt marked → at ≡ d + k → starts (mark marked f D) (drop p s) ≡ true → (m : List ℕ) → m ≡ take k (drop d s) → starts (tailFor m) (drop at s) ≡ true → starts (segment marked f (take k D)) (drop p s) ≡ true
+    segment-seen d at e there mark-there m is h =
+        let same : drop d s ≡ D = ap (λ (n : ℕ). drop n s) e ∙ sym (drop-drop (dataAt marked) p s) in
+        let q : m ≡ take k D = is ∙ ap (take k) same in
+        let behind : drop at s ≡ drop k D = ap (λ (n : ℕ). drop n s) there ∙ (sym (drop-drop k d s) ∙ ap (drop k) same) in
+        let tail : starts (take k D ++ tailFor (take k D)) D ≡ true = starts-behind k D (tailFor (take k D)) ∙ rw (← behind, ← q) h in
+        rw (← parts) (both-stand (mark marked f D) (take k D ++ tailFor (take k D)) (drop p s) mark-there (rw (mark-length marked D) tail))

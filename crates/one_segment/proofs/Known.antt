@@ -1,17 +1,17 @@
 -- A written segment in its place: what reading it answers, and what stands in its parts.
 --   clean-answers   it counts as clean, where another follows it or nothing does
---   Stood           a segment with a marker that is known to be clean
+--   M-*             the parts of a segment that stands at p
 use mathlib.Core.Path.{_≡_, refl, sym, ap, subst, _∙_}
 use mathlib.Core.Bool.{Bool, true, false}
 use mathlib.Core.List.{List, [], _∷_, _++_, append-assoc, cons≢nil}
 use mathlib.Core.Option.{some}
 use Prim.Native.Nat.{ℕ, zero, suc, _+_, _-_, _≤_, _<_}
 use native.Mathlib.Omega.{arith}
-use lib.ListN.{length, getD, take, drop, length-take, length-drop, length-append}
+use lib.ListN.{length, getD, take, drop, length-drop, length-append}
 use lib.Seq.{drop-drop, take-at, getD-take, getD-drop, length-take-le}
 use Rattle.code.specs.Symbols.{Below}
 use Rattle.code.specs.Layers.{width}
-use Rattle.code.specs.Segment.{check, separator, syndromeOf, marker, block, segment, lastOf, size}
+use Rattle.code.specs.Segment.{check, separator, syndromeOf, block, segment, lastOf, size}
 use Rattle.code.specs.BelowLaws.{below-take, below-drop}
 use Rattle.code.specs.Edits.{judged}
 use Rattle.code.specs.SegmentLaws.{length-segment, length-syndrome, width-two}
@@ -19,12 +19,10 @@ use Rattle.code.specs.Reading.{starts, message, got, endOf, withEdit, readOne, 
 use Rattle.code.specs.Reading as R
 use Rattle.code.specs.ReadingLaws.{starts-split, drop-off}
 use Rattle.code.specs.StepLaws.{Final}
-use Rattle.code.specs.StrandsLaws.{clean-split, clean-got, clean-read}
+use Rattle.code.specs.StrandsLaws.{clean-got, clean-read}
 use Rattle.code.specs.declared.Edit.the-variants.{None}
-use Rattle.segment.specs.declared.Tail.{Tail}
-use Rattle.segment.specs.Tails.{IsTail}
-use Rattle.segment.proofs.Tails.{tail-last}
-use Rattle.message.proofs.Steps.{part-is}
+use Rattle.segment.specs.Tails.{mark}
+use Rattle.segment.proofs.Tails.{marked-block}
 use Rattle.scan.proofs.Starts.{clean-inside}
 use Rattle.one_segment.specs.declared.One.{One}
 use Rattle.one_segment.specs.declared.One.the-variants.{Read}
@@ -51,100 +49,95 @@ unfolding size
 size-data true k = refl
 size-data false k = refl
 
--- the tail of the k symbols behind a marker
-pub tail-here : (marked : Bool) (p k d n : ℕ) (s : List ℕ) (t : Tail) → d ≡ dataAt marked → n ≡ p + d + k → IsTail (take (n - (p + d)) (drop (p + d) s)) t → IsTail (take k (drop (dataAt marked) (drop p s))) t
-tail-here marked p k d n s t e l h =
-    let q : take (n - (p + d)) (drop (p + d) s) ≡ take k (drop (dataAt marked) (drop p s)) = part-is (p + d) k s n l ∙ ap (take k) (ap (λ (i : ℕ). drop (p + i) s) e ∙ sym (drop-drop (dataAt marked) p s)) in
-    subst (λ (x : List ℕ). IsTail x t) q h
-
 no-more : (r : List ℕ) → length r ≡ 0 → r ≡ []
 no-more [] e = refl
 no-more (x ∷ r) e = absurd (omega arith)
 
--- a segment that was seen to stand at p
-module _ (marked : Bool) (f k next p d : ℕ) (s : List ℕ) (t : Tail) (two : 2 ≤ k) (small : Below 4 s) (behind : d ≡ dataAt marked) (room : p + d + k ≤ length s) (tail : IsTail (take k (drop (dataAt marked) (drop p s))) t) where
+-- the segment of the k symbols at d stands at p
+module _ (marked : Bool) (f k p d : ℕ) (s : List ℕ) (two : 2 ≤ k) (small : Below 4 s) (behind : d ≡ p + dataAt marked) (room : d + k ≤ length s) (stands : starts (segment marked f (take k (drop (dataAt marked) (drop p s)))) (drop p s) ≡ true) where
+  abbrev S : List ℕ
+  S = drop p s
+
+  -- its message
   abbrev M : List ℕ
-  M = take k (drop (dataAt marked) (drop p s))
+  M = take k (drop d s)
 
-  M-long : length M ≡ k
-  M-long = length-take-le k (drop (dataAt marked) (drop p s)) (simp length-drop (omega (arith, behind)))
+  M-at : take k (drop (dataAt marked) S) ≡ M
+  M-at = ap (take k) (drop-drop (dataAt marked) p s ∙ ap (λ (n : ℕ). drop n s) (sym behind))
 
-  tail-width : t .width ≡ width k
-  tail-width = tail .width ∙ ap width M-long
+  pub M-long : length M ≡ k
+  M-long = length-take-le k (drop d s) (simp length-drop (omega arith))
 
-  pub stands-answers : starts (segment marked f M) (drop p s) ≡ true → (next ≡ 0 → p + d + k + (4 + t .width) ≡ length s) → (out : List ℕ) → out ≡ take k (drop (p + d) s) → (last : ℕ) → last ≡ getD (t .syndrome) (t .width - 1) 0 → Answers p (drop p s) out (Read None (p + d + k + (4 + t .width)) last) (readOne marked f k (followers next) (drop p s) (drop p s))
-  stands-answers stands ends out is last last-is =
-      let S = drop p s in
-      let r = drop (length (segment marked f M)) S in
-      let n : length (segment marked f M) ≡ size marked k = length-segment marked f M ∙ ap (size marked) M-long in
-      let z = size-data marked k in
-      let here : out ≡ M = is ∙ ap (take k) (ap (λ (i : ℕ). drop (p + i) s) behind ∙ sym (drop-drop (dataAt marked) p s)) in
-      let fin : (x : ℕ) → (x ≡ 0 → p + d + k + (4 + t .width) ≡ length s) → Final (followers x) r = λ x. elim x [ zero ↦ (λ h q. no-more r (simp length-drop (omega (arith, h refl, n, z, behind, tail-width)))) | suc y ↦ (λ h q. absurd (cons≢nil q)) ] in
-      clean-answers marked f k next p S M r (starts-split (segment marked f M) S stands) M-long two (below-take k (drop (dataAt marked) S) (below-drop (dataAt marked) S (below-drop p s small))) (fin next ends) out here (p + d + k + (4 + t .width)) last (omega (arith, z, behind, tail-width)) (last-is ∙ tail-last M t tail (omega (arith, M-long)))
-
--- a segment with a marker that is known to be clean
-module _ (k f p : ℕ) (s : List ℕ) (two : 2 ≤ k) (small : Below 4 s) (clean : R.clean k f (drop p s) ≡ true) where
-  abbrev N : List ℕ
-  N = take k (drop (p + 2) s)
-
-  pub inside : p + 2 + k + (4 + width k) ≤ length s
-  inside = omega (arith, clean-inside k f s p clean, size-data true k)
-
-  pub N-long : length N ≡ k
-  N-long = length-take-le k (drop (p + 2) s) (simp length-drop (omega (arith, inside)))
-
-  pub N-small : Below 4 N
-  N-small = below-take k (drop (p + 2) s) (below-drop (p + 2) s small)
+  pub M-small : Below 4 M
+  M-small = below-take k (drop d s) (below-drop d s small)
 
   abbrev rest : List ℕ
-  rest = drop (length (segment true f N)) (drop p s)
+  rest = drop (length (segment marked f M)) S
 
-  pub N-whole : drop p s ≡ segment true f N ++ rest
-  N-whole = rw (← drop-drop 2 p s) (clean-split k f (drop p s) clean)
+  M-whole : S ≡ segment marked f M ++ rest
+  M-whole = rw (← M-at) (starts-split (segment marked f (take k (drop (dataAt marked) S))) S stands)
+
+  M-size : length (segment marked f M) ≡ dataAt marked + (k + (4 + width k))
+  M-size = length-segment marked f M ∙ (ap (size marked) M-long ∙ size-data marked k)
+
+  pub M-inside : d + k + (4 + width k) ≤ length s
+  M-inside = omega (arith, ap length M-whole, length-append (segment marked f M) rest, M-size, length-drop p s, behind)
 
   -- what stands before the syndrome
   front : List ℕ
-  front = marker f N ∷ marker f N ∷ (N ++ check N ∷ separator N ∷ separator N ∷ separator N ∷ [])
+  front = mark marked f M ++ (M ++ check M ∷ separator M ∷ separator M ∷ separator M ∷ [])
 
-  in-front : drop p s ≡ front ++ (syndromeOf N ++ rest)
-  unfolding segment block front
+  in-front : S ≡ front ++ (syndromeOf M ++ rest)
+  unfolding block front
   in-front =
-      N-whole ∙ ap (λ (l : List ℕ). marker f N ∷ marker f N ∷ l)
-      (append-assoc N (check N ∷ separator N ∷ separator N ∷ separator N ∷ syndromeOf N) rest ∙ sym (append-assoc N (check N ∷ separator N ∷ separator N ∷ separator N ∷ []) (syndromeOf N ++ rest)))
+      let t = check M ∷ separator M ∷ separator M ∷ separator M ∷ [] in
+      let a = syndromeOf M in
+      M-whole ∙ (ap (λ (l : List ℕ). l ++ rest) (sym (marked-block marked f M)) ∙ (append-assoc (mark marked f M) (M ++ (t ++ a)) rest ∙ (ap (_++_ (mark marked f M)) (append-assoc M (t ++ a) rest ∙ sym (append-assoc M t (a ++ rest))) ∙ sym (append-assoc (mark marked f M) (M ++ t) (a ++ rest)))))
 
-  front-long : length front ≡ 2 + k + 4
+  mark-length : (b : Bool) → length (mark b f M) ≡ dataAt b
+  unfolding mark
+  mark-length true = refl
+  mark-length false = refl
+
+  front-long : length front ≡ dataAt marked + (k + 4)
   unfolding front
-  front-long = omega (arith, length-append N (check N ∷ separator N ∷ separator N ∷ separator N ∷ []), N-long)
+  front-long = length-append (mark marked f M) (M ++ check M ∷ separator M ∷ separator M ∷ separator M ∷ []) ∙ omega (arith, mark-length marked, length-append M (check M ∷ separator M ∷ separator M ∷ separator M ∷ []), M-long)
 
   -- its syndrome stands behind the separator
-  pub N-syndrome : take (width k) (drop (p + 2 + k + 4) s) ≡ syndromeOf N
-  N-syndrome =
-      let n : p + 2 + k + 4 ≡ p + (2 + k + 4) = omega arith in
-      let q : drop (p + 2 + k + 4) s ≡ syndromeOf N ++ rest = ap (λ (i : ℕ). drop i s) n ∙ (sym (drop-drop (2 + k + 4) p s) ∙ (ap (drop (2 + k + 4)) in-front ∙ drop-off (2 + k + 4) front (syndromeOf N ++ rest) 0 (omega (arith, front-long)))) in
-      rw q (take-at (syndromeOf N) rest (width k) (length-syndrome N ∙ ap width N-long))
+  pub M-syndrome : take (width k) (drop (d + k + 4) s) ≡ syndromeOf M
+  M-syndrome =
+      let n : d + k + 4 ≡ p + (dataAt marked + (k + 4)) = omega arith in
+      let q : drop (d + k + 4) s ≡ syndromeOf M ++ rest = ap (λ (i : ℕ). drop i s) n ∙ (sym (drop-drop (dataAt marked + (k + 4)) p s) ∙ (ap (drop (dataAt marked + (k + 4))) in-front ∙ drop-off (dataAt marked + (k + 4)) front (syndromeOf M ++ rest) 0 (omega (arith, front-long)))) in
+      rw q (take-at (syndromeOf M) rest (width k) (length-syndrome M ∙ ap width M-long))
 
   -- its last symbol
-  pub N-last : (w : ℕ) → w ≡ width k → getD s (p + 2 + k + (4 + w) - 1) 0 ≡ lastOf N
+  M-last : (w : ℕ) → w ≡ width k → getD s (d + k + (4 + w) - 1) 0 ≡ lastOf M
   unfolding lastOf
-  N-last w e =
+  M-last w e =
       let t = width-two k two in
-      let n : p + 2 + k + (4 + w) - 1 ≡ p + 2 + k + 4 + (width k - 1) = omega arith in
-      rw n (sym (getD-drop (p + 2 + k + 4) s (width k - 1) 0) ∙ (sym (getD-take (width k) (drop (p + 2 + k + 4) s) (width k - 1) 0 (omega arith)) ∙ (ap (λ (l : List ℕ). getD l (width k - 1) 0) N-syndrome ∙ ap (λ (i : ℕ). getD (syndromeOf N) (width i - 1) 0) (sym N-long))))
+      let n : d + k + (4 + w) - 1 ≡ d + k + 4 + (width k - 1) = omega arith in
+      rw n (sym (getD-drop (d + k + 4) s (width k - 1) 0) ∙ (sym (getD-take (width k) (drop (d + k + 4) s) (width k - 1) 0 (omega arith)) ∙ (ap (λ (l : List ℕ). getD l (width k - 1) 0) M-syndrome ∙ ap (λ (i : ℕ). getD (syndromeOf M) (width i - 1) 0) (sym M-long))))
 
-  pub clean-next : (next : ℕ) → (next ≡ 0 → ⊥) → (out : List ℕ) → out ≡ N → (w last : ℕ) → w ≡ width k → last ≡ getD s (p + 2 + k + (4 + w) - 1) 0 → Answers p (drop p s) out (Read None (p + 2 + k + (4 + w)) last) (readOne true f k (followers next) (drop p s) (drop p s))
-  clean-next next more out e w last i j =
-      clean-answers true f k next p (drop p s) N rest N-whole N-long two N-small (fin next more) out e (p + 2 + k + (4 + w)) last (omega (arith, size-data true k)) (j ∙ N-last w i)
+  -- another follows it, or nothing
+  pub stands-answers : (next : ℕ) → (next ≡ 0 → d + k + (4 + width k) ≡ length s) → (out : List ℕ) → out ≡ M → (w last : ℕ) → w ≡ width k → last ≡ getD s (d + k + (4 + w) - 1) 0 → Answers p S out (Read None (d + k + (4 + w)) last) (readOne marked f k (followers next) S S)
+  stands-answers next ends out e w last i j =
+      clean-answers marked f k next p S M rest M-whole M-long two M-small (fin next ends) out e (d + k + (4 + w)) last (omega (arith, size-data marked k)) (j ∙ M-last w i)
     where
-      fin : (x : ℕ) → (x ≡ 0 → ⊥) → Final (followers x) rest
-      fin zero h q = absurd (h refl)
+      fin : (x : ℕ) → (x ≡ 0 → d + k + (4 + width k) ≡ length s) → Final (followers x) rest
+      fin zero h q = no-more rest (simp length-drop (omega (arith, h refl, M-size)))
       fin (suc y) h q = absurd (cons≢nil q)
 
   -- the last segment is compared to the strand's end
-  pub clean-last : (next : ℕ) → next ≡ 0 → p ≤ length s → (out : List ℕ) → out ≡ N → (y : One) → y ≡ oneAs p (withEdit out (length s - p) (judged (segment true f out) (take (length s - p) (drop p s)))) → Answers p (drop p s) out y (readOne true f k (followers next) (drop p s) (drop p s))
+  pub last-answers : (next : ℕ) → next ≡ 0 → p ≤ length s → (out : List ℕ) → out ≡ M → (y : One) → y ≡ oneAs p (withEdit out (length s - p) (judged (segment marked f out) (take (length s - p) S))) → Answers p S out y (readOne marked f k (followers next) S S)
   unfolding endOf
-  clean-last next z room out e y q =
-      end-read true f k next p (drop p s) out (known-got true f k next p (drop p s) N rest N-whole N-long two N-small ∙ ap message (sym e)) (ap length e ∙ N-long) y (length s) (last-end next z) (omega (arith, length-drop p s)) (subst (Below 4) (sym e) N-small) q
+  last-answers next z inside out e y q =
+      end-read marked f k next p S out (known-got marked f k next p S M rest M-whole M-long two M-small ∙ ap message (sym e)) (ap length e ∙ M-long) y (length s) (last-end next z) (omega (arith, length-drop p s)) (subst (Below 4) (sym e) M-small) q
     where
-      last-end : (x : ℕ) → x ≡ 0 → endOf true (length out) (followers x) (drop p s) (drop p s) out ≡ some (length s - p)
+      last-end : (x : ℕ) → x ≡ 0 → endOf marked (length out) (followers x) S S out ≡ some (length s - p)
       last-end zero h = ap some (length-drop p s)
       last-end (suc x) h = absurd (omega arith)
+
+-- a segment that is known to be clean stands
+pub clean-stands : (k f p : ℕ) (s : List ℕ) → R.clean k f (drop p s) ≡ true → (starts (segment true f (take k (drop 2 (drop p s)))) (drop p s) ≡ true) × (p + 2 + k ≤ length s)
+unfolding R.clean
+clean-stands k f p s e = (e, omega (arith, clean-inside k f s p e, size-data true k))

@@ -28,7 +28,7 @@ ghost use lib.ListN.{length, take, drop};
 ghost use Rattle.code.specs.Symbols.{Below};
 ghost use Rattle.code.specs.Segment.{segment, lastOf};
 ghost use Rattle.code.specs.Edits.{judged};
-ghost use Rattle.code.specs.Reading.{starts, whole, separatorAt, moved, dataAt, settled, endOf, withEdit, readOne};
+ghost use Rattle.code.specs.Reading.{whole, separatorAt, moved, dataAt, settled, endOf, withEdit, readOne};
 ghost use Rattle.code.specs.Reading as R;
 ghost use Rattle.segment.specs.Tails.{IsTail};
 ghost use Rattle.message.specs.Answers.{shiftIndex, shiftOf, IsGot};
@@ -214,30 +214,6 @@ fn read_clean(s: &[u8], p: usize, f: u8, next: usize, out: &mut [u8]) -> One
     compared(s, p, true, f, out, tail, s.len())
 }
 
-// The segment of the k symbols at d stands at p, and another is to follow it or the strand ends with it.
-fn stands_alone(
-    s: &[u8],
-    p: usize,
-    marked: bool,
-    f: u8,
-    d: usize,
-    k: usize,
-    tail: Tail,
-    next: usize,
-) -> bool
-    requires { ⌜ (f < 4) × (2 ≤ k) × (k ≤ 4096) × (d ≡ p + dataAt marked) × (d + k ≤ length (now s)) × (length (now s) ≤ 4096) ⌝ }
-    requires { ⌜ IsTail (take k (drop (dataAt marked) (drop p (now s)))) tail ⌝ }
-    ensures { λ r. ⌜ (r ≡ true → (starts (segment marked f (take k (drop (dataAt marked) (drop p (now (s .entry)))))) (drop p (now (s .entry))) ≡ true) × (next ≡ 0 → d + k + (4 + tail .width) ≡ length (now (s .entry)))) ⌝ }
-{
-    if !segment_stands(s, p, marked, f, d, k, tail) {
-        return false;
-    }
-    if next != 0 {
-        return true;
-    }
-    d + k + (4 + tail.width) == s.len()
-}
-
 // Steps 1 to 9 of a segment of which nothing is known.
 fn read_one(s: &[u8], p: usize, marked: bool, f: u8, next: usize, out: &mut [u8]) -> Seen
     requires { ⌜ Below 4 (now s) ⌝ }
@@ -262,14 +238,15 @@ fn read_one(s: &[u8], p: usize, marked: bool, f: u8, next: usize, out: &mut [u8]
         };
     }
     let sums = layers::sums(&s[d..to]);
-    let tail = tail_with(&s[d..to], sums);
-    if stands_alone(s, p, marked, f, d, k, tail, next) {
+    if segment_stands(s, p, marked, f, d, k, sums, next) {
+        let end = to + (4 + layers::width_of(k));
         copy(s, d, out);
         return Seen {
-            one: One::Read(Edit::None, to + (4 + tail.width), last_of(tail)),
+            one: One::Read(Edit::None, end, s[end - 1]),
             clean: false,
         };
     }
+    let tail = tail_with(&s[d..to], sums);
     let j = find_separator(s, d, k);
     let got = read_whole(s, d, j, sums.places, tail, out);
     finished(s, p, marked, f, next, k, j, out, got)

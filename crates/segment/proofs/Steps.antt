@@ -37,7 +37,7 @@ one-more : (n : ℕ) → suc n ≡ 1 + n
 one-more n = omega arith
 
 -- the last symbol, and those before it of half the numbers
-bits-last : (n h l : ℕ) → pair (bits (suc n) h) (bits (suc n) l) ≡ pair (bits n (h / 2)) (bits n (l / 2)) ++ (2 * bitAnd h 1 + bitAnd l 1) ∷ []
+pub bits-last : (n h l : ℕ) → pair (bits (suc n) h) (bits (suc n) l) ≡ pair (bits n (h / 2)) (bits n (l / 2)) ++ (2 * bitAnd h 1 + bitAnd l 1) ∷ []
 unfolding pair bits
 bits-last zero h l = rw (digit-bit 0 h, digit-bit 0 l, and-mask h 1, and-mask l 1) (ap (λ (x : ℕ). x ∷ []) (omega arith))
 bits-last (suc n) h l =

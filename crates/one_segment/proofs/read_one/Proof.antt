@@ -1,20 +1,18 @@
-use mathlib.Core.Path.{_≡_, refl, ap, subst, _∙_}
+use mathlib.Core.Path.{_≡_, refl, sym, ap, _∙_}
 use mathlib.Core.Bool.{false≢true}
 use Prim.Native.Nat.{ℕ, _+_, _-_, _≤_}
 use borrow.Author.Needs.{needs}
 use borrow.Author.Tests.{not-true, not-false}
 use native.Mathlib.Omega.{arith}
 use lib.ListN.{length, take, drop}
-use Rattle.code.specs.Layers.{sumOfPlaces, width}
-use Rattle.code.specs.SegmentLaws.{width-two}
+use Rattle.code.specs.Layers.{sumOfPlaces}
 use Rattle.layers.specs.declared.Summed.{Summed}
-use Rattle.layers.specs.Answers.{both}
+use Rattle.layers.specs.Answers.{both, sumsOf}
 use Rattle.message.proofs.Mends.{is-got}
-use Rattle.message.proofs.Steps.{part-is}
-use Rattle.message.proofs.Parts.{part-length, tail-part}
-use Rattle.one_segment.proofs.InPlace.{tail-room}
+use Rattle.message.proofs.Steps.{part-is, width-most}
+use Rattle.message.proofs.Parts.{tail-part}
 use Rattle.one_segment.proofs.OneRead.{placed, got-hit, hit-index, got-whole, got-short, answers-lost}
-use Rattle.one_segment.proofs.Known.{tail-here, stands-answers}
+use Rattle.one_segment.proofs.Known.{M-inside, stands-answers}
 use Rattle.one_segment.proofs.read_one.Statement.{statement}
 use Rattle.one_segment.proofs.read_one.Tie as tie
 
@@ -74,6 +72,51 @@ part-sums-end c = search needs
 sums-requires : tie.Need-sums-requires
 sums-requires c κs = search needs
 
+segment-stands-requires : tie.Need-segment-stands-requires
+segment-stands-requires c κs =
+    let b = c .before .before .before .before .before .before .before .before in
+    let a = b .args in
+    let k = length (a .out .now) in
+    let d = c .before .before .before .before .before .data-at .result in
+    ((omega arith, omega arith, omega arith, ap (_+_ (a .p)) (c .before .before .before .before .before .data-at .ensures .0), omega (arith, c .before .before .if2 .left), omega arith), c .sums .ensures ∙ ap sumsOf (part-is (a .p + d) k (a .s .now) (a .p + d + k) refl))
+
+width-of-requires : tie.Need-width-of-requires
+width-of-requires c κs = search needs
+
+add-end : tie.Need-add-end
+add-end c = let a = c .before .before .before .before .before .before .before .before .before .before .before .args in omega (arith, c .width-of .ensures, width-most (length (a .out .now)) (omega arith))
+
+add-end-2 : tie.Need-add-end-2
+add-end-2 c = let a = c .before .before .before .before .before .before .before .before .before .before .before .args in omega (arith, c .width-of .ensures, width-most (length (a .out .now)) (omega arith))
+
+copy-requires : tie.Need-copy-requires
+copy-requires c κs = search needs
+
+sub-t29 : tie.Need-sub-t29
+sub-t29 c = search needs
+
+shared-slice-read-t36 : tie.Need-shared-slice-read-t36
+shared-slice-read-t36 c =
+    let b = c .before .before .before .before .before .before .before .before .before .before .before .before .before .before .before .before in
+    let a = b .args in
+    let k = length (a .out .now) in
+    let x = c .before .before .before .before .before .before .before .segment-stands .ensures (c .before .before .before .before .before .before .if3 .taken) in
+    omega (arith, c .before .before .before .before .before .width-of .ensures, M-inside (a .marked) (a .f) k (a .p) (a .p + c .before .before .before .before .before .before .before .before .before .before .before .before .before .data-at .result) (a .s .now) (omega arith) (b .pre .0) (ap (_+_ (a .p)) (c .before .before .before .before .before .before .before .before .before .before .before .before .before .data-at .ensures .0)) (omega (arith, c .before .before .before .before .before .before .before .before .before .before .if2 .left)) (x .0))
+
+same-length-2 : tie.Need-same-length-2
+same-length-2 c = search needs
+
+returns-3 : tie.Need-returns-3
+returns-3 c =
+    let b = c .before .before .before .before .before .before .before .before .before .before .before .before .before .before .before .before in
+    let a = b .args in
+    let k = length (a .out .now) in
+    let x = c .before .before .before .before .before .before .before .segment-stands .ensures (c .before .before .before .before .before .before .if3 .taken) in
+    let w = c .before .before .before .before .before .width-of in
+    let o = c .before .before .before .copy in
+    let l = stands-answers (a .marked) (a .f) k (a .p) (a .p + c .before .before .before .before .before .before .before .before .before .before .before .before .before .data-at .result) (a .s .now) (omega arith) (b .pre .0) (ap (_+_ (a .p)) (c .before .before .before .before .before .before .before .before .before .before .before .before .before .data-at .ensures .0)) (omega (arith, c .before .before .before .before .before .before .before .before .before .before .if2 .left)) (x .0) (a .next) (x .1) (o .last .1 .1 .0) (o .ensures) (w .result) _ (w .ensures) refl in
+    (l .0, (l .1, λ q. absurd (false≢true q)))
+
 sub-tail-with : tie.Need-sub-tail-with
 sub-tail-with c = search needs
 
@@ -86,55 +129,6 @@ part-tail-with-end c = search needs
 tail-with-requires : tie.Need-tail-with-requires
 tail-with-requires c κs = search needs
 
-stands-alone-requires : tie.Need-stands-alone-requires
-stands-alone-requires c κs =
-    let b = c .before .before .before .before .before .before .before .before .before .before in
-    let a = b .args in
-    let t = c .tail-with in
-    ((omega arith, omega arith, omega arith, ap (_+_ (a .p)) (c .before .before .before .before .before .before .before .data-at .ensures .0), omega arith, omega arith), (tail-here (a .marked) (a .p) (length (a .out .now)) (c .before .before .before .before .before .before .before .data-at .result) (a .p + c .before .before .before .before .before .before .before .data-at .result + length (a .out .now)) (a .s .now) (t .result) (c .before .before .before .before .before .before .before .data-at .ensures .0) refl (t .ensures)))
-
-copy-requires : tie.Need-copy-requires
-copy-requires c κs = search needs
-
-add-t35 : tie.Need-add-t35
-add-t35 c =
-    let b = c .before .before .before .before .before .before .before .before .before .before .before .before .before .before .before .before .before in
-    let a = b .args in
-    let t = c .before .before .before .before .before .before .before .tail-with in
-    omega (arith, tail-room (a .marked) (a .p) (a .s .now) (length (a .out .now)) (t .result) (omega arith) (tail-here (a .marked) (a .p) (length (a .out .now)) (c .before .before .before .before .before .before .before .before .before .before .before .before .before .before .data-at .result) (a .p + c .before .before .before .before .before .before .before .before .before .before .before .before .before .before .data-at .result + length (a .out .now)) (a .s .now) (t .result) (c .before .before .before .before .before .before .before .before .before .before .before .before .before .before .data-at .ensures .0) refl (t .ensures)))
-
-add-t36 : tie.Need-add-t36
-add-t36 c =
-    let b = c .before .before .before .before .before .before .before .before .before .before .before .before .before .before .before .before .before in
-    let a = b .args in
-    let t = c .before .before .before .before .before .before .before .tail-with in
-    omega (arith, tail-room (a .marked) (a .p) (a .s .now) (length (a .out .now)) (t .result) (omega arith) (tail-here (a .marked) (a .p) (length (a .out .now)) (c .before .before .before .before .before .before .before .before .before .before .before .before .before .before .data-at .result) (a .p + c .before .before .before .before .before .before .before .before .before .before .before .before .before .before .data-at .result + length (a .out .now)) (a .s .now) (t .result) (c .before .before .before .before .before .before .before .before .before .before .before .before .before .before .data-at .ensures .0) refl (t .ensures)))
-
-last-of-requires : tie.Need-last-of-requires
-last-of-requires c κs =
-    let b = c .before .before .before .before .before .before .before .before .before .before .before .before .before .before .before .before .before in
-    let a = b .args in
-    let k = length (a .out .now) in
-    let t = c .before .before .before .before .before .before .before .tail-with in
-    let d = c .before .before .before .before .before .before .before .before .before .before .before .before .before .before .data-at .result in
-    let n = part-length (a .p + d) k (a .s .now) (a .p + d + k) refl (omega arith) in
-    let w = width-two k (omega arith) in
-    let e : t .result .width ≡ width k = t .ensures .width ∙ ap width n in
-    (omega (arith, e, w), tail-room (a .marked) (a .p) (a .s .now) k (t .result) (omega arith) (tail-here (a .marked) (a .p) (length (a .out .now)) (c .before .before .before .before .before .before .before .before .before .before .before .before .before .before .data-at .result) (a .p + c .before .before .before .before .before .before .before .before .before .before .before .before .before .before .data-at .result + length (a .out .now)) (a .s .now) (t .result) (c .before .before .before .before .before .before .before .before .before .before .before .before .before .before .data-at .ensures .0) refl (t .ensures)), t .ensures .room)
-
-same-length-2 : tie.Need-same-length-2
-same-length-2 c = search needs
-
-returns-3 : tie.Need-returns-3
-returns-3 c =
-    let b = c .before .before .before .before .before .before .before .before .before .before .before .before .before .before .before .before .before .before in
-    let a = b .args in
-    let k = length (a .out .now) in
-    let t = c .before .before .before .before .before .before .before .before .tail-with in
-    let x = c .before .before .before .before .before .before .before .stands-alone .ensures (c .before .before .before .before .before .before .if3 .taken) in
-    let l = stands-answers (a .marked) (a .f) k (a .next) (a .p) (c .before .before .before .before .before .before .before .before .before .before .before .before .before .before .before .data-at .result) (a .s .now) (t .result) (omega arith) (b .pre .0) (c .before .before .before .before .before .before .before .before .before .before .before .before .before .before .before .data-at .ensures .0) (omega arith) (tail-here (a .marked) (a .p) (length (a .out .now)) (c .before .before .before .before .before .before .before .before .before .before .before .before .before .before .before .data-at .result) (a .p + c .before .before .before .before .before .before .before .before .before .before .before .before .before .before .before .data-at .result + length (a .out .now)) (a .s .now) (t .result) (c .before .before .before .before .before .before .before .before .before .before .before .before .before .before .before .data-at .ensures .0) refl (t .ensures)) (x .0) (x .1) (c .before .before .before .before .copy .last .1 .1 .0) (c .before .before .before .before .copy .ensures) (c .last-of .result) (c .last-of .ensures) in
-    (l .0, (l .1, λ q. absurd (false≢true q)))
-
 find-separator-requires-2 : tie.Need-find-separator-requires-2
 find-separator-requires-2 c κs = search needs
 
@@ -145,7 +139,7 @@ read-whole-requires c κs =
     let k = length (a .out .now) in
     let d = c .before .before .before .before .before .before .before .before .before .before .before .data-at .result in
     let u = c .before .before .before .before .before .before .sums in
-    let t = c .before .before .before .before .tail-with in
+    let t = c .before .before .tail-with in
     let r : a .p + d + k ≤ length (a .s .now) = omega (arith, c .before .before .before .before .before .before .before .before .if2 .left) in
     ((omega arith, omega arith, r), ((c .before .find-separator2 .ensures, omega arith), ((ap (λ (s : Summed). s .places) (u .ensures) ∙ ap (both sumOfPlaces) (part-is (a .p + d) k (a .s .now) (a .p + d + k) refl), tail-part (a .p + d) k (a .p + d + k) (a .s .now) (t .result) refl (t .ensures)), b .pre .0)))
 
@@ -181,17 +175,19 @@ read-one-spec =
     part-sums-start
     part-sums-end
     sums-requires
+    segment-stands-requires
+    width-of-requires
+    add-end
+    add-end-2
+    copy-requires
+    sub-t29
+    shared-slice-read-t36
+    same-length-2
+    returns-3
     sub-tail-with
     part-tail-with-start
     part-tail-with-end
     tail-with-requires
-    stands-alone-requires
-    copy-requires
-    add-t35
-    add-t36
-    last-of-requires
-    same-length-2
-    returns-3
     find-separator-requires-2
     read-whole-requires
     finished-requires-2
