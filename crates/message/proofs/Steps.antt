@@ -15,7 +15,7 @@ use Rattle.code.specs.LayersLaws.{width-least}
 use Rattle.code.specs.Links.{sent}
 use Rattle.code.specs.Repair.{repair}
 use Rattle.code.specs.Segment.{check, syndromeOf}
-use Rattle.code.specs.Reading.{starts, threeEqual, Shift, level, early, late, moved, firstShift, separatorAt, checkAgrees, syndromeAgrees, afterSeparator, message, lost, bothLayers, repaired, linkOf, taken, messageAt, messageWithout, twoEqual, dataAt, gotHit, gotWhole, got}
+use Rattle.code.specs.Reading.{starts, threeEqual, Shift, level, early, late, moved, firstShift, separatorAt, checkAgrees, syndromeAgrees, afterSeparator, message, lost, bothLayers, repaired, linkOf, taken, messageAt, messageWithout}
 use Rattle.code.specs.Reading as R
 use Rattle.compare.specs.Offsets.{triedAt}
 use Rattle.compare.specs.OffsetsLaws.{tried-level, tried-early, tried-late}
@@ -182,24 +182,3 @@ module _ (j k d : ℕ) (s : List ℕ) (t : Tail) (b : Bool) where
 
     pub took-level : c ≡ false → b ≡ starts (take (t .width) (t .syndrome)) (drop (d + (k + 1 + 3)) s) → b ≡ tookBy (shiftOf j) k (drop d s) t
     took-level e f = rw (level-j, drop-drop k d s, ← check-is, e, drop-drop (k + 1 + 3) d s) f
-
--- Step 3, and what the marker is
-
-module _ (marked : Bool) (k p : ℕ) (s : List ℕ) where
-  pub index-marked : (j : ℕ) → marked ≡ true → j ≡ shiftIndex (separatorAt k (drop (dataAt marked) (drop p s))) → j ≡ shiftIndex (separatorAt k (drop (p + 2) s))
-  index-marked j m e = e ∙ rw (m, drop-drop 2 p s)
-
-  pub index-first : (j : ℕ) → marked ≡ false → j ≡ shiftIndex (separatorAt k (drop (dataAt marked) (drop p s))) → j ≡ shiftIndex (separatorAt k (drop p s))
-  index-first j m e = e ∙ rw m
-
-  pub got-hit : (t : Bool) → marked ≡ true → t ≡ twoEqual (drop p s) → t ≡ false → got marked k (drop p s) ≡ gotHit k (drop p s) (separatorAt k (drop (p + 2) s))
-  unfolding got
-  got-hit t m e f = rw (m, ← e, f, drop-drop 2 p s)
-
-  pub got-whole : (t : Bool) → marked ≡ true → t ≡ twoEqual (drop p s) → t ≡ true → got marked k (drop p s) ≡ gotWhole k (drop (p + 2) s) (separatorAt k (drop (p + 2) s))
-  unfolding got
-  got-whole t m e f = rw (m, ← e, f, drop-drop 2 p s)
-
-  pub got-first : marked ≡ false → got marked k (drop p s) ≡ gotWhole k (drop p s) (separatorAt k (drop p s))
-  unfolding got
-  got-first m = rw m
