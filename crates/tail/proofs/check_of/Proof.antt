@@ -3,9 +3,9 @@ use Prim.Native.Nat.{_+_, _-_, _*_, _≤_}
 use native.Mathlib.Omega.{arith}
 use lib.ListN.{length, drop}
 use Rattle.code.specs.Segment.{total, check}
-use Rattle.segment.proofs.Steps.{total-step, total-end}
-use Rattle.segment.proofs.check_of.Statement.{statement}
-use Rattle.segment.proofs.check_of.Tie as tie
+use Rattle.tail.proofs.Steps.{total-step, total-end}
+use Rattle.tail.proofs.check_of.Statement.{statement}
+use Rattle.tail.proofs.check_of.Tie as tie
 
 -- what is summed, and what is to come, is the whole sum
 abbrev Inv-loop : tie.InvT-loop

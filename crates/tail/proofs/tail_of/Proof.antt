@@ -1,7 +1,7 @@
 use borrow.Author.Needs.{needs}
 use native.Mathlib.Omega.{arith}
-use Rattle.segment.proofs.tail_of.Statement.{statement}
-use Rattle.segment.proofs.tail_of.Tie as tie
+use Rattle.tail.proofs.tail_of.Statement.{statement}
+use Rattle.tail.proofs.tail_of.Tie as tie
 
 pub tail-of-spec : {M : Type 1} → statement M
 tail-of-spec =

@@ -4,8 +4,8 @@ use Prim.Native.Nat.{_+_, _%_}
 use borrow.Author.Tests.{not-true, not-false}
 use borrow.Author.Needs.{needs}
 use Rattle.code.specs.Segment.{either, sep}
-use Rattle.segment.proofs.sep_of.Statement.{statement}
-use Rattle.segment.proofs.sep_of.Tie as tie
+use Rattle.tail.proofs.sep_of.Statement.{statement}
+use Rattle.tail.proofs.sep_of.Tie as tie
 
 pub sep-of-spec : {M : Type 1} → statement M
 unfolding sep

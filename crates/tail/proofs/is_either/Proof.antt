@@ -1,6 +1,6 @@
 use borrow.Author.Tests.{eq-eqb, ne-eqb}
-use Rattle.segment.proofs.is_either.Statement.{statement}
-use Rattle.segment.proofs.is_either.Tie as tie
+use Rattle.tail.proofs.is_either.Statement.{statement}
+use Rattle.tail.proofs.is_either.Tie as tie
 
 pub is-either-spec : {M : Type 1} → statement M
 is-either-spec =

@@ -1,2 +1,0 @@
-pub mod Tails
-pub mod Spelling

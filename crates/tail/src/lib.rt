@@ -1,0 +1,134 @@
+// What follows a message in its segment: check, separator and syndrome.
+use layers::Summed;
+ghost use mathlib.Core.Path.{_≡_};
+ghost use Prim.Native.Nat.{_+_, _-_, _*_, _<_, _≤_};
+ghost use lib.ListN.{length, getD};
+ghost use Rattle.code.specs.Layers.{bit, digit};
+ghost use Rattle.code.specs.Segment.{check, either, sep, syndromeOf};
+ghost use Rattle.layers.specs.Answers.{sumsOf};
+ghost use Rattle.tail.specs.Tails.{IsTail, tailOf};
+
+// What follows a message: check, separator, and the syndromes of both layers, in `width` bits each.
+pub struct Tail {
+    pub check: u8,
+    pub separator: u8,
+    pub width: usize,
+    pub high: usize,
+    pub low: usize,
+}
+
+// Whether x is b or c.
+fn is_either(x: u8, b: u8, c: u8) -> bool
+    ensures { λ r. ⌜ r ≡ either x b c ⌝ }
+{
+    if x == b {
+        return true;
+    }
+    x == c
+}
+
+// The separator function Sep.
+pub fn sep_of(a: u8, b: u8, c: u8) -> u8
+    requires { ⌜ a < 4 ⌝ }
+    ensures { λ r. ⌜ r ≡ sep a b c ⌝ }
+{
+    let two = (a + 2) % 4;
+    if !is_either(two, b, c) {
+        return two;
+    }
+    let three = (a + 3) % 4;
+    if !is_either(three, b, c) {
+        return three;
+    }
+    (a + 1) % 4
+}
+
+// The check of a message: the sum of its symbols modulo 4.
+pub fn check_of(message: &[u8]) -> u8
+    requires { ⌜ length (now message) ≤ 4096 ⌝ }
+    ensures { λ r. ⌜ r ≡ check (now (message .entry)) ⌝ }
+{
+    let mut sum: usize = 0;
+    let mut i = 0;
+    while i < message.len() {
+        sum += message[i] as usize;
+        i += 1;
+    }
+    (sum % 4) as u8
+}
+
+// The symbol of two numbers' bits at place i, from the last.
+fn symbol_at(high: usize, low: usize, i: usize) -> u8
+    requires { ⌜ i < 16 ⌝ }
+    ensures { λ r. ⌜ r ≡ 2 * digit (bit i high) + digit (bit i low) ⌝ }
+{
+    (2 * ((high >> i) & 1) + ((low >> i) & 1)) as u8
+}
+
+// The symbol at place i of a tail.
+pub fn symbol_in(tail: Tail, i: usize) -> u8
+    requires { ⌜ (i < 4 + tail .width) × (tail .width ≤ 16) ⌝ }
+    ensures { λ r. ⌜ r ≡ getD (tailOf tail) i 0 ⌝ }
+{
+    if i == 0 {
+        return tail.check;
+    }
+    if i < 4 {
+        return tail.separator;
+    }
+    symbol_at(tail.high, tail.low, tail.width + 3 - i)
+}
+
+// What follows a message whose check and sums of places are known.
+pub fn tail_with(message: &[u8], sums: Summed) -> Tail
+    requires { ⌜ (2 ≤ length (now message)) × (length (now message) ≤ 4096) × (sums ≡ sumsOf (now message)) ⌝ }
+    ensures { λ r. ⌜ IsTail (now (message .entry)) r ⌝ }
+{
+    let check = sums.check;
+    let width = layers::width_of(message.len());
+    let s = layers::syndromes(message, sums.places);
+    let first = symbol_at(s.high, s.low, width - 1);
+    let second = symbol_at(s.high, s.low, width - 2);
+    let separator = sep_of(check, first, second);
+    Tail {
+        check,
+        separator,
+        width,
+        high: s.high,
+        low: s.low,
+    }
+}
+
+// What follows a message.
+pub fn tail_of(message: &[u8]) -> Tail
+    requires { ⌜ (2 ≤ length (now message)) × (length (now message) ≤ 4096) ⌝ }
+    ensures { λ r. ⌜ IsTail (now (message .entry)) r ⌝ }
+{
+    let sums = layers::sums(message);
+    tail_with(message, sums)
+}
+
+// What follows a message whose syndrome symbols are known.
+pub fn tail_given(message: &[u8], written: &[u8]) -> Tail
+    requires { ⌜ (2 ≤ length (now message)) × (length (now message) ≤ 4096) × (now written ≡ syndromeOf (now message)) ⌝ }
+    ensures { λ r. ⌜ IsTail (now (message .entry)) r ⌝ }
+{
+    let check = check_of(message);
+    let separator = sep_of(check, written[0], written[1]);
+    let s = layers::numbers(written);
+    Tail {
+        check,
+        separator,
+        width: written.len(),
+        high: s.high,
+        low: s.low,
+    }
+}
+
+// The last syndrome symbol of a tail.
+pub fn last_of(tail: Tail) -> u8
+    requires { ⌜ (0 < tail .width) × (tail .width ≤ 16) ⌝ }
+    ensures { λ r. ⌜ r ≡ getD (tailOf tail) (3 + tail .width) 0 ⌝ }
+{
+    symbol_at(tail.high, tail.low, 0)
+}
