@@ -33,7 +33,7 @@ fn read_equal(
     ensures { λ _. ⌜ now (ends .exit) ≡ endsFrom 0 (outcomes (replicate l k) (now (s .entry))) ⌝ }
 {
     let lengths = [k; 64];
-    reading::walk::read_layout(&lengths[..l], s, symbols, marks, ends);
+    reading::read_layout(&lengths[..l], s, symbols, marks, ends);
 }
 
 // Reads l segments of k symbols: bytes at the front of `message`, marks at the front of `sheet`, and their counts.

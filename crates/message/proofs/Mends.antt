@@ -19,7 +19,7 @@ use Rattle.code.specs.Repair.{repair, mended, mendedWord}
 use Rattle.code.specs.RepairLaws.{repair-found}
 use Rattle.code.specs.Reading.{message, lost, bothLayers}
 use Rattle.code.specs.Reading as R
-use Rattle.segment.specs.Tails.{IsTail}
+use Rattle.tail.specs.Tails.{IsTail}
 use Rattle.message.specs.declared.Got.{Got}
 use Rattle.message.specs.Answers.{IsGot}
 

@@ -8,8 +8,8 @@ use native.Mathlib.Omega.{arith}
 use lib.ListN.{length, take, drop, length-drop}
 use lib.Seq.{length-take-le, take-take}
 use Rattle.code.specs.Reading.{Shift, level, early, late, moved}
-use Rattle.segment.specs.declared.Tail.{Tail}
-use Rattle.segment.specs.Tails.{IsTail}
+use Rattle.tail.specs.declared.Tail.{Tail}
+use Rattle.tail.specs.Tails.{IsTail}
 use Rattle.message.specs.Answers.{shiftOf}
 use Rattle.message.proofs.Steps.{part-is}
 

@@ -19,8 +19,8 @@ use Rattle.code.specs.Reading.{starts, threeEqual, Shift, level, early, late, m
 use Rattle.code.specs.Reading as R
 use Rattle.compare.specs.Offsets.{triedAt}
 use Rattle.compare.specs.OffsetsLaws.{tried-level, tried-early, tried-late}
-use Rattle.segment.specs.declared.Tail.{Tail}
-use Rattle.segment.specs.Tails.{IsTail}
+use Rattle.tail.specs.declared.Tail.{Tail}
+use Rattle.tail.specs.Tails.{syndromeIn, IsTail}
 use Rattle.message.specs.Answers.{shiftIndex, shiftOf, tookBy}
 
 -- the tests with what follows a message, at a place
@@ -28,7 +28,7 @@ check-at : (k d : ℕ) (s m : List ℕ) (c : ℕ) → c ≡ check m → starts (
 unfolding checkAgrees
 check-at k d s m c e = rw (e, drop-drop k d s)
 
-pub syndrome-seen : (j : Shift) (k d : ℕ) (s m : List ℕ) (t : Tail) (at : ℕ) → IsTail m t → at ≡ d + (moved j (k + 1) + 3) → starts (take (t .width) (t .syndrome)) (drop at s) ≡ syndromeAgrees j k (drop d s) m
+pub syndrome-seen : (j : Shift) (k d : ℕ) (s m : List ℕ) (t : Tail) (at : ℕ) → IsTail m t → at ≡ d + (moved j (k + 1) + 3) → starts (syndromeIn t) (drop at s) ≡ syndromeAgrees j k (drop d s) m
 unfolding syndromeAgrees
 syndrome-seen j k d s m t at i e = rw (i .symbols, e, drop-drop (moved j (k + 1) + 3) d s)
 
@@ -168,10 +168,10 @@ hit-room k (suc (suc j)) p n s h e r = omega (arith, length-drop (p + 2) s)
 
 -- the test as the code makes it, by the number of the shift
 module _ (j k d : ℕ) (s : List ℕ) (t : Tail) (b : Bool) where
-  pub took-moved : (n : ℕ) → (j ≡ 0 → ⊥) → n ≡ moved (shiftOf j) (k + 1) → b ≡ starts (take (t .width) (t .syndrome)) (drop (d + (n + 3)) s) → b ≡ tookBy (shiftOf j) k (drop d s) t
-  took-moved n h m e = go j h (e ∙ ap (λ (x : ℕ). starts (take (t .width) (t .syndrome)) (drop (d + (x + 3)) s)) m)
+  pub took-moved : (n : ℕ) → (j ≡ 0 → ⊥) → n ≡ moved (shiftOf j) (k + 1) → b ≡ starts (syndromeIn t) (drop (d + (n + 3)) s) → b ≡ tookBy (shiftOf j) k (drop d s) t
+  took-moved n h m e = go j h (e ∙ ap (λ (x : ℕ). starts (syndromeIn t) (drop (d + (x + 3)) s)) m)
     where
-      go : (i : ℕ) → (i ≡ 0 → ⊥) → b ≡ starts (take (t .width) (t .syndrome)) (drop (d + (moved (shiftOf i) (k + 1) + 3)) s) → b ≡ tookBy (shiftOf i) k (drop d s) t
+      go : (i : ℕ) → (i ≡ 0 → ⊥) → b ≡ starts (syndromeIn t) (drop (d + (moved (shiftOf i) (k + 1) + 3)) s) → b ≡ tookBy (shiftOf i) k (drop d s) t
       go zero p q = absurd (p refl)
       go (suc zero) p q = rw (drop-drop (k + 1 - 1 + 3) d s) q
       go (suc (suc i)) p q = rw (drop-drop (k + 1 + 1 + 3) d s) q
@@ -180,5 +180,5 @@ module _ (j k d : ℕ) (s : List ℕ) (t : Tail) (b : Bool) where
     pub took-check : c ≡ true → true ≡ tookBy (shiftOf j) k (drop d s) t
     took-check e = rw (level-j, drop-drop k d s, ← check-is, e)
 
-    pub took-level : c ≡ false → b ≡ starts (take (t .width) (t .syndrome)) (drop (d + (k + 1 + 3)) s) → b ≡ tookBy (shiftOf j) k (drop d s) t
+    pub took-level : c ≡ false → b ≡ starts (syndromeIn t) (drop (d + (k + 1 + 3)) s) → b ≡ tookBy (shiftOf j) k (drop d s) t
     took-level e f = rw (level-j, drop-drop k d s, ← check-is, e, drop-drop (k + 1 + 3) d s) f

@@ -12,8 +12,8 @@ use Rattle.code.specs.Symbols.{Below}
 use Rattle.code.specs.Reading.{Shift, level, early, late, starts, message, lost}
 use Rattle.code.specs.Reading as R
 use lib.ListN.{take, drop}
-use Rattle.segment.specs.declared.Tail.{Tail}
-use Rattle.segment.specs.Tails.{IsTail}
+use Rattle.tail.specs.declared.Tail.{Tail}
+use Rattle.tail.specs.Tails.{syndromeIn, IsTail}
 use Rattle.message.specs.declared.Got.{Got}
 
 -- the number of a shift in the order in which it is tried; 3 for none
@@ -36,6 +36,6 @@ IsGot (lost step) out r = r .step ≡ step
 
 -- the symbols at D are taken as they stand, by what follows them: check and syndrome
 abbrev pub tookBy : Shift → ℕ → List ℕ → Tail → Bool
-tookBy level k d t = starts (t .check ∷ []) (drop k d) || starts (take (t .width) (t .syndrome)) (R.afterSeparator level k d)
-tookBy early k d t = starts (take (t .width) (t .syndrome)) (R.afterSeparator early k d)
-tookBy late k d t = starts (take (t .width) (t .syndrome)) (R.afterSeparator late k d)
+tookBy level k d t = starts (t .check ∷ []) (drop k d) || starts (syndromeIn t) (R.afterSeparator level k d)
+tookBy early k d t = starts (syndromeIn t) (R.afterSeparator early k d)
+tookBy late k d t = starts (syndromeIn t) (R.afterSeparator late k d)

@@ -3,11 +3,11 @@ use code::Link;
 use code::Repair;
 use compare::offsets::moved_by;
 use compare::tests::is_at;
-use compare::tests::stands_at;
 use compare::tests::three_equal;
 use layers::Fix;
 use layers::Layers;
-use segment::Tail;
+use standing::syndrome_at;
+use tail::Tail;
 ghost use mathlib.Core.Path.{_≡_};
 ghost use Prim.Native.Nat.{_+_, _-_, _<_, _≤_};
 ghost use lib.ListN.{length, take, drop};
@@ -15,9 +15,9 @@ ghost use Rattle.code.specs.Symbols.{Below};
 ghost use Rattle.code.specs.Layers.{layer, number, sumOfPlaces, width};
 ghost use Rattle.code.specs.Links.{sent};
 ghost use Rattle.code.specs.Repair.{repair};
-ghost use Rattle.code.specs.Reading.{starts, bothLayers, separatorAt, linkOf, moved, afterSeparator, message, repaired, messageAt, messageWithout, gotHit, gotWhole};
+ghost use Rattle.code.specs.Reading.{bothLayers, separatorAt, linkOf, moved, afterSeparator, message, repaired, messageAt, messageWithout, gotHit, gotWhole};
 ghost use Rattle.layers.specs.Answers.{both};
-ghost use Rattle.segment.specs.Tails.{IsTail};
+ghost use Rattle.tail.specs.Tails.{IsTail};
 ghost use Rattle.message.specs.Answers.{shiftIndex, shiftOf, tookBy, IsGot};
 ghost use mathlib.Core.Option.{some};
 
@@ -72,7 +72,8 @@ fn lost_in(step: u8) -> Got
             check: 0,
             separator: 0,
             width: 0,
-            syndrome: [0; 16],
+            high: 0,
+            low: 0,
         },
     }
 }
@@ -95,18 +96,8 @@ fn taken(s: &[u8], from: usize, out: &mut [u8]) -> Got
     ensures { λ r. ⌜ IsGot (message (take (length (now (out .entry))) (drop from (now (s .entry))))) (now (out .exit)) r ⌝ }
 {
     let to = from + out.len();
-    let tail = segment::tail_of(&s[from..to]);
+    let tail = tail::tail_of(&s[from..to]);
     taken_with(s, from, tail, out)
-}
-
-// The t syndrome symbols of a tail stand at a place.
-pub fn syndrome_at(tail: Tail, s: &[u8], at: usize) -> bool
-    requires { ⌜ (at < 65536) × (tail .width ≤ 16) × (length (tail .syndrome) ≡ 16) ⌝ }
-    ensures { λ r. ⌜ r ≡ starts (take (tail .width) (tail .syndrome)) (drop at (now (s .entry))) ⌝ }
-{
-    let width = tail.width;
-    let syndrome = tail.syndrome;
-    stands_at(&syndrome[..width], s, at)
 }
 
 // Step 6: with no separator the symbols at d, whose tail is known, if the check agrees.
@@ -164,7 +155,7 @@ fn mend_both(link: Link, received: &[u8], sums: Layers, written: &[u8], out: &mu
     );
     Got {
         step: 0,
-        tail: segment::tail_given(out, written),
+        tail: tail::tail_given(out, written),
     }
 }
 
@@ -206,7 +197,7 @@ fn repair_at(s: &[u8], d: usize, j: usize, sums: Layers, out: &mut [u8]) -> Got
 
 // The symbols at d are taken as they stand: the check agrees, where the separator is in its place, or the syndrome.
 fn agrees(s: &[u8], d: usize, k: usize, j: usize, tail: Tail) -> bool
-    requires { ⌜ (d < 16384) × (k ≤ 4096) × (j < 3) × (tail .width ≤ 16) × (length (tail .syndrome) ≡ 16) ⌝ }
+    requires { ⌜ (d < 16384) × (k ≤ 4096) × (j < 3) × (0 < tail .width) × (tail .width ≤ 16) ⌝ }
     ensures { λ r. ⌜ r ≡ tookBy (shiftOf j) k (drop d (now (s .entry))) tail ⌝ }
 {
     if j != 0 {

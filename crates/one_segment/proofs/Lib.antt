@@ -1,5 +1,3 @@
-pub mod Ending
 pub mod Comparing
 pub mod OneRead
-pub mod InPlace
 pub mod Known

@@ -18,7 +18,7 @@ use Rattle.code.specs.Reading as R
 use Rattle.code.specs.MessageLengths.{got-length}
 use Rattle.code.specs.declared.Edit.{Edit}
 use Rattle.code.specs.declared.Link.{Link}
-use Rattle.segment.specs.Tails.{IsTail}
+use Rattle.tail.specs.Tails.{IsTail}
 use Rattle.message.specs.declared.Got.{Got}
 use Rattle.message.specs.Answers.{shiftIndex, shiftOf, IsGot}
 use Rattle.message.proofs.Steps.{without-short, found-room, moved-least}
@@ -27,7 +27,8 @@ use Rattle.scan.specs.declared.Start.the-variants.{At, Nowhere}
 use Rattle.one_segment.specs.declared.One.{One}
 use Rattle.one_segment.specs.declared.One.the-variants.{Lost}
 use Rattle.scan.specs.Scans.{startAt}
-use Rattle.one_segment.specs.Ones.{followers, oneAs, Holds, CleanAt, CleanNext}
+use Rattle.ending.specs.Followers.{followers, CleanAt}
+use Rattle.one_segment.specs.Ones.{oneAs, Holds, CleanNext}
 
 -- The steps that lose a message have numbers above 0
 

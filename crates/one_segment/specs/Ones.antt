@@ -1,26 +1,17 @@
 -- What reading one segment answers.
---   followers   the lengths behind a segment, as the reading of one asks for them
 --   oneAs       a segment that was read or lost, as the answer of a call
 --   Holds       what a buffer holds of a segment that was read
---   CleanAt     a clean segment stands at a start
 --   CleanNext   a clean segment stands behind one that was read
 use mathlib.Core.Path.{_≡_}
 use mathlib.Core.Bool.{true}
-use mathlib.Core.List.{List, [], _∷_}
-use Prim.Native.Nat.{ℕ, zero, suc, _+_, _≤_}
+use mathlib.Core.List.{List}
+use Prim.Native.Nat.{ℕ, _+_, _≤_}
 use lib.ListN.{drop}
 use Rattle.code.specs.Symbols.{Below}
 use Rattle.code.specs.Segment.{lastOf}
 use Rattle.code.specs.Reading as R
-use Rattle.scan.specs.declared.Start.{Start}
-use Rattle.scan.specs.declared.Start.the-variants.{At, Nowhere}
 use Rattle.one_segment.specs.declared.One.{One}
 use Rattle.one_segment.specs.declared.One.the-variants.{Read, Lost}
-
--- the length n of the message behind, or none where it is 0
-abbrev pub followers : ℕ → List ℕ
-followers zero = []
-followers (suc n) = suc n ∷ []
 
 -- a segment that started at p
 abbrev pub oneAs : ℕ → R.One → One
@@ -31,11 +22,6 @@ oneAs p (R.One.lost step) = Lost step
 abbrev pub Holds : ℕ → R.One → List ℕ → Type 0
 Holds n (R.One.read m e o) out = (out ≡ m) × Below 4 m × (o ≤ n)
 Holds n (R.One.lost step) out = Unit {0}
-
--- a clean segment of k message symbols stands where the start says, f being the symbol before it
-abbrev pub CleanAt : ℕ → ℕ → List ℕ → Start → Type 0
-CleanAt k f s (At o) = R.clean k f (drop o s) ≡ true
-CleanAt k f s Nowhere = Unit {0}
 
 -- a clean segment of k message symbols stands behind one that was read
 abbrev pub CleanNext : ℕ → List ℕ → One → Type 0

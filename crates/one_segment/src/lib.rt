@@ -1,50 +1,41 @@
-// Steps 8 and 9, and with them the reading of one segment.
-mod standing;
-
-use crate::standing::segment_stands;
+// Step 9, and with it the reading of one segment.
 use code::Edit;
 use compare::judge::Judged;
 use compare::judge::judge;
 use compare::tests::two_equal;
+use ending::data_at;
+use ending::end_of;
 use message::Got;
 use message::copy;
 use message::find_separator;
 use message::read_hit;
 use message::read_whole;
-use message::shifted;
-use message::syndrome_at;
 use scan::Start;
-use scan::find_clean;
-use segment::Tail;
-use segment::last_of;
 use segment::put_segment;
 use segment::size_of;
-use segment::tail_given;
-use segment::tail_with;
+use standing::segment_stands;
+use tail::Tail;
+use tail::last_of;
+use tail::tail_given;
+use tail::tail_with;
 ghost use mathlib.Core.Path.{_≡_};
 ghost use mathlib.Core.Bool.{true};
-ghost use Prim.Native.Nat.{_+_, _-_, _<_, _≤_};
+ghost use Prim.Native.Nat.{_-_, _<_, _≤_};
 ghost use lib.ListN.{length, take, drop};
 ghost use Rattle.code.specs.Symbols.{Below};
-ghost use Rattle.code.specs.Segment.{segment, lastOf};
+ghost use Rattle.code.specs.Segment.{segment};
 ghost use Rattle.code.specs.Edits.{judged};
-ghost use Rattle.code.specs.Reading.{whole, separatorAt, moved, dataAt, settled, endOf, withEdit, readOne};
+ghost use Rattle.code.specs.Reading.{whole, separatorAt, dataAt, withEdit, readOne};
 ghost use Rattle.code.specs.Reading as R;
-ghost use Rattle.segment.specs.Tails.{IsTail};
-ghost use Rattle.message.specs.Answers.{shiftIndex, shiftOf, IsGot};
-ghost use Rattle.scan.specs.Scans.{startAt};
-ghost use Rattle.one_segment.specs.Ones.{followers, oneAs, Holds, CleanAt, CleanNext};
+ghost use Rattle.tail.specs.Tails.{IsTail};
+ghost use Rattle.message.specs.Answers.{shiftIndex, IsGot};
+ghost use Rattle.ending.specs.Followers.{followers};
+ghost use Rattle.one_segment.specs.Ones.{oneAs, Holds, CleanNext};
 
 // What reading a segment answers: its edit, its end and the last symbol of its message; or the step that loses it.
 pub enum One {
     Read(Edit, usize, u8),
     Lost(u8),
-}
-
-// Where a segment ends, or that there is no end; and whether the next one is known to be clean.
-struct End {
-    start: Start,
-    clean: bool,
 }
 
 // What is read of a segment, and whether the next one is known to be clean.
@@ -53,86 +44,15 @@ pub struct Seen {
     pub clean: bool,
 }
 
-// The symbols as they are.
-const PLAIN: [u8; 4] = [0, 1, 2, 3];
-
-// D, from P.
-fn data_at(marked: bool) -> usize
-    ensures { λ r. ⌜ (r ≡ dataAt marked) × (r ≤ 2) ⌝ }
-{
-    if marked {
-        return 2;
-    }
-    0
-}
-
-// The place after a separator that was found moved by the j-th offset.
-fn behind_separator(p: usize, marked: bool, k: usize, j: usize) -> usize
-    requires { ⌜ (j < 3) × (p < 16384) × (k < 16384) ⌝ }
-    ensures { λ r. ⌜ (r ≡ p + dataAt marked + (moved (shiftOf j) (k + 1) + 3)) × (r < 65536) ⌝ }
-{
-    p + data_at(marked) + (shifted(k + 1, j) + 3)
-}
-
-// Step 8: whether the symbols after the separator settle the end.
-fn settles(s: &[u8], p: usize, marked: bool, message: &[u8], tail: Tail, j: usize) -> bool
-    requires { ⌜ IsTail (now message) tail ⌝ }
-    requires { ⌜ (p ≤ length (now s)) × (length (now s) ≤ 4096) × (length (now message) ≤ 4000) ⌝ }
-    requires { ⌜ j ≡ shiftIndex (separatorAt (length (now message)) (drop (dataAt marked) (drop p (now s)))) ⌝ }
-    ensures { λ r. ⌜ r ≡ settled (length (now (message .entry))) (drop (dataAt marked) (drop p (now (s .entry)))) (now (message .entry)) (separatorAt (length (now (message .entry))) (drop (dataAt marked) (drop p (now (s .entry))))) ⌝ }
-{
-    if 3 <= j {
-        return false;
-    }
-    syndrome_at(tail, s, behind_separator(p, marked, message.len(), j))
-}
-
-// Step 8: where a segment ends; `next` is the length of the message after it, 0 for none.
-fn end_of(
-    s: &[u8],
-    p: usize,
-    marked: bool,
-    message: &[u8],
-    tail: Tail,
-    j: usize,
-    next: usize,
-) -> End
-    requires { ⌜ Below 4 (now s) ⌝ }
-    requires { ⌜ IsTail (now message) tail ⌝ }
-    requires { ⌜ (p ≤ length (now s)) × (length (now s) ≤ 4096) × (2 ≤ length (now message)) × (length (now message) ≤ 4000) ⌝ }
-    requires { ⌜ (next ≤ 4000) × (next ≡ 1 → ⊥) × (j ≡ shiftIndex (separatorAt (length (now message)) (drop (dataAt marked) (drop p (now s))))) ⌝ }
-    ensures { λ r. ⌜ r .start ≡ startAt p (endOf marked (length (now (message .entry))) (followers next) (drop p (now (s .entry))) (drop p (now (s .entry))) (now (message .entry))) ⌝ }
-    ensures { λ r. ⌜ (r .clean ≡ true → CleanAt next (lastOf (now (message .entry))) (now (s .entry)) (r .start)) ⌝ }
-{
-    if next == 0 {
-        return End {
-            start: Start::At(s.len()),
-            clean: false,
-        };
-    }
-    let k = message.len();
-    if settles(s, p, marked, message, tail, j) {
-        return End {
-            start: Start::At(behind_separator(p, marked, k, j) + tail.width),
-            clean: false,
-        };
-    }
-    End {
-        start: find_clean(s, p, size_of(marked, k), next, 3, false, last_of(tail)),
-        clean: true,
-    }
-}
-
 // Step 9: the symbols from p to before `end` against the segment written anew.
 fn compared(s: &[u8], p: usize, marked: bool, f: u8, message: &[u8], tail: Tail, end: usize) -> One
-    requires { ⌜ Below 4 (now message) ⌝ }
     requires { ⌜ IsTail (now message) tail ⌝ }
     requires { ⌜ (p ≤ end) × (end ≤ length (now s)) × (length (now s) ≤ 4096) ⌝ }
     requires { ⌜ (f < 4) × (2 ≤ length (now message)) × (length (now message) ≤ 64) ⌝ }
     ensures { λ r. ⌜ r ≡ oneAs p (withEdit (now (message .entry)) (end - p) (judged (segment marked f (now (message .entry))) (take (end - p) (drop p (now (s .entry)))))) ⌝ }
 {
     let mut anew = [0u8; 96];
-    put_segment(marked, f, message, tail, &PLAIN, &mut anew, 0);
+    put_segment(marked, f, message, tail, &mut anew, 0);
     let n = size_of(marked, message.len());
     let Judged::Is(edit) = judge(&anew[..n], s, p, end) else {
         return One::Lost(9);
@@ -238,15 +158,15 @@ fn read_one(s: &[u8], p: usize, marked: bool, f: u8, next: usize, out: &mut [u8]
         };
     }
     let sums = layers::sums(&s[d..to]);
-    if segment_stands(s, p, marked, f, d, k, sums, next) {
-        let end = to + (4 + layers::width_of(k));
+    let tail = tail_with(&s[d..to], sums);
+    if segment_stands(s, p, marked, f, d, k, tail, next) {
+        let end = to + (4 + tail.width);
         copy(s, d, out);
         return Seen {
             one: One::Read(Edit::None, end, s[end - 1]),
             clean: false,
         };
     }
-    let tail = tail_with(&s[d..to], sums);
     let j = find_separator(s, d, k);
     let got = read_whole(s, d, j, sums.places, tail, out);
     finished(s, p, marked, f, next, k, j, out, got)

@@ -17,11 +17,11 @@ use Rattle.code.specs.Reading as R
 use Rattle.code.specs.Layout.{sum, joined}
 use Rattle.code.specs.Strands.{Outcome, unfound, scan, reading, outcomes, messagesOf, marksOf, markOf}
 use Rattle.code.specs.MessageLengths.{read-length}
-use Rattle.reading.specs.declared.next.Next.{Next}
-use Rattle.one_segment.specs.Ones.{followers}
-use Rattle.reading.specs.Steps.{Step, afterLost, afterOne, stepOf, going}
+use Rattle.next.specs.declared.Next.{Next}
+use Rattle.ending.specs.Followers.{followers}
+use Rattle.next.specs.Steps.{Step, afterLost, afterOne, stepOf, going}
 use Rattle.reading.specs.StepsLaws.{nextOf, going-step}
-use Rattle.reading.specs.Nexts.{IsNext, Follows}
+use Rattle.next.specs.Nexts.{IsNext, Follows}
 use Rattle.reading.specs.Walks.{Within, done, more, endsFrom}
 
 -- Lengths within the limits

@@ -1,4 +1,2 @@
-pub mod Stepping
-pub mod Nexting
 pub mod Walking
 pub mod Layouts

@@ -1,4 +1,2 @@
-pub mod Steps
 pub mod StepsLaws
-pub mod Nexts
 pub mod Walks

@@ -11,8 +11,8 @@ use Rattle.code.specs.Segment.{size}
 use Rattle.code.specs.Reading.{got, message, lost, endOf, withMessage, readOne}
 use Rattle.code.specs.Reading as R
 use Rattle.code.specs.Strands.{Outcome, scan, withScan, withOne, reading}
-use Rattle.one_segment.specs.Ones.{followers}
-use Rattle.reading.specs.Steps.{Step, afterLost, afterOne, stepOf, going}
+use Rattle.ending.specs.Followers.{followers}
+use Rattle.next.specs.Steps.{Step, afterLost, afterOne, stepOf, going}
 
 -- the length behind a segment, 0 for none
 abbrev pub nextOf : List ℕ → ℕ

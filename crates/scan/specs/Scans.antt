@@ -1,15 +1,12 @@
 -- The search for a clean segment about a place.
 --   firstClean     the first start of a list where a clean segment stands
 --   letterBefore   the symbol before a start
---   markerAt       the marker of the message behind it stands at a place
 --   startAt        a start as the answer of a call
-use mathlib.Core.Bool.{Bool, cond, _&&_}
+use mathlib.Core.Bool.{Bool, cond}
 use mathlib.Core.List.{List, [], _∷_}
 use mathlib.Core.Option.{Option, some, none}
 use Prim.Native.Nat.{ℕ, _+_, _-_}
-use lib.Dec.{eqb}
 use lib.ListN.{getD, drop}
-use Rattle.code.specs.Segment.{sep}
 use Rattle.code.specs.Reading.{clean}
 use Rattle.scan.specs.declared.Start.{Start}
 use Rattle.scan.specs.declared.Start.the-variants.{At, Nowhere}
@@ -22,12 +19,6 @@ firstClean k g raw (o ∷ os) = cond (clean k (g o) (drop o raw)) (some o) (firs
 -- the symbol before the start o: the received one, or f
 unfoldable pub letterBefore : Bool → ℕ → List ℕ → ℕ → ℕ
 letterBefore received f s o = cond received (getD s (o - 1) 0) f
-
--- the marker of the message two places on stands at the place, f being the symbol before it
-unfoldable pub markerAt : ℕ → List ℕ → ℕ → Bool
-markerAt f s at =
-    eqb (sep f (getD s (at + 2) 0) (getD s (at + 3) 0)) (getD s at 0)
-    && eqb (sep f (getD s (at + 2) 0) (getD s (at + 3) 0)) (getD s (at + 1) 0)
 
 -- a start counted from p, or that there is none
 abbrev pub startAt : ℕ → Option ℕ → Start

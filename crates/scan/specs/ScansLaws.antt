@@ -1,52 +1,27 @@
--- Laws of the search for a clean segment: the clean test by parts, and which searches of the reading steps it is.
+-- Laws of the search for a clean segment: where there is no room for a clean segment, and which searches of the reading steps it is.
 use mathlib.Core.Path.{_≡_, refl, sym, ap, _∙_}
-use mathlib.Core.Bool.{Bool, true, false, cond, _&&_}
-use mathlib.Core.List.{List, [], _∷_, _++_}
+use mathlib.Core.Bool.{Bool, true, false, cond}
+use mathlib.Core.List.{List, [], _∷_}
 use mathlib.Core.Option.{some, none}
-use Prim.Native.Nat.{ℕ, zero, suc, _+_, _-_, _≤_, _<_}
+use Prim.Native.Nat.{ℕ, _+_, _-_, _≤_, _<_}
 use native.Mathlib.Decide.{decLe}
 use native.Mathlib.Nat.{lt-of-not-le}
-use native.Mathlib.Numerals.{add-one}
 use native.Mathlib.Omega.{arith}
-use borrow.Author.Tests.{eq-eqb, lt-ltb}
-use lib.Dec.{eqb}
+use borrow.Author.Tests.{lt-ltb}
 use lib.ListN.{length, getD, take, drop, length-take, length-drop}
-use lib.Seq.{take-all, drop-cons, drop-drop, getD-take, getD-drop}
+use lib.Seq.{take-all, getD-drop}
 use Rattle.code.specs.Symbols.{Below}
-use Rattle.code.specs.Segment.{check, sep, separator, syndromeOf, marker, block, segment, size}
+use Rattle.code.specs.Segment.{segment, size}
 use Rattle.code.specs.SegmentLaws.{length-segment}
-use Rattle.code.specs.Reading.{starts, clean, moved, firstShift, level, early, late, around}
+use Rattle.code.specs.Reading.{clean, moved, firstShift, level, early, late, around}
 use Rattle.code.specs.Strands.{above, pairs, firstStart, scan}
 use Rattle.compare.specs.OffsetsLaws.{scan-length}
 use Rattle.compare.proofs.Standing.{block-past}
 use Rattle.scan.specs.Scans.{firstClean, letterBefore}
 
--- The clean test by parts
-
--- a list starts with its own front; what else is demanded stands behind it
-pub starts-behind : (k : ℕ) (l t : List ℕ) → starts (take k l ++ t) l ≡ starts t (drop k l)
-unfolding starts
-starts-behind zero l t = refl
-starts-behind (suc k) [] t = refl
-starts-behind (suc k) (x ∷ l) t = rw (eq-eqb x x refl) (starts-behind k l t)
-
--- check, separator and syndrome of a message
-abbrev pub tailFor : List ℕ → List ℕ
-tailFor m = check m ∷ separator m ∷ separator m ∷ separator m ∷ syndromeOf m
+-- The clean test
 
 module _ (k f : ℕ) (s : List ℕ) (at : ℕ) where
-  -- the marker's two symbols, then the tail behind the k symbols of the message
-  pub clean-parts : at + size true k ≤ length s → (m : List ℕ) → m ≡ take k (drop (at + 2) s) → clean k f (drop at s) ≡ (eqb (marker f m) (getD s at 0) && (eqb (marker f m) (getD s (at + 1) 0) && starts (tailFor m) (drop (at + (2 + k)) s)))
-  unfolding clean segment block starts size
-  clean-parts room m e =
-      let h : at < length s = omega arith in
-      let i : suc at < length s = omega arith in
-      let p : at + 2 ≡ suc (suc at) = omega arith in
-      let q : at + (2 + k) ≡ at + 2 + k = omega arith in
-      let front : drop at s ≡ getD s at 0 ∷ getD s (at + 1) 0 ∷ drop (at + 2) s = rw (p, add-one, drop-cons s at 0 h, drop-cons s (suc at) 0 i) in
-      let back : starts (m ++ tailFor m) (drop (at + 2) s) ≡ starts (tailFor m) (drop (at + (2 + k)) s) = ap (λ (l : List ℕ). starts (l ++ tailFor m) (drop (at + 2) s)) e ∙ rw (q, ← drop-drop k (at + 2) s) (starts-behind k (drop (at + 2) s) (tailFor m)) in
-      rw (front, ← e, back)
-
   -- less room than a segment takes
   pub clean-short : length s < at + size true k → clean k f (drop at s) ≡ false
   unfolding clean size
@@ -79,16 +54,6 @@ module _ (received : Bool) (f : ℕ) (s : List ℕ) where
       go : (r : Bool) → cond r (getD s (o - 1) 0) f < 4
       go true = b (o - 1)
       go false = h
-
--- The marker at a place
-
--- the marker of the message behind it
-pub marker-is : (k f : ℕ) (s : List ℕ) (at : ℕ) → 2 ≤ k → marker f (take k (drop (at + 2) s)) ≡ sep f (getD s (at + 2) 0) (getD s (at + 3) 0)
-unfolding marker
-marker-is k f s at h =
-    let a : at + 2 + 0 ≡ at + 2 = omega arith in
-    let b : at + 2 + 1 ≡ at + 3 = omega arith in
-    rw (getD-take k (drop (at + 2) s) 0 0 (omega arith), getD-take k (drop (at + 2) s) 1 0 (omega arith), getD-drop (at + 2) s 0 0, getD-drop (at + 2) s 1 0, a, b)
 
 -- Which searches it is
 

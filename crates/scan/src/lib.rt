@@ -1,17 +1,16 @@
 // The search for a clean segment about a place.
 use compare::offsets::moved_by;
-use segment::Tail;
-use segment::sep_of;
 use segment::size_of;
-use segment::tail_of;
+use standing::marker_stands;
+use tail::symbol_in;
+use tail::tail_of;
 ghost use mathlib.Core.Path.{_≡_};
 ghost use mathlib.Core.List.{_∷_};
 ghost use Prim.Native.Nat.{_+_, _<_, _≤_};
 ghost use lib.ListN.{length, take, drop};
 ghost use Rattle.code.specs.Symbols.{Below};
 ghost use Rattle.code.specs.Strands.{above, pairs};
-ghost use Rattle.segment.specs.Tails.{tailOf};
-ghost use Rattle.scan.specs.Scans.{firstClean, letterBefore, markerAt, startAt};
+ghost use Rattle.scan.specs.Scans.{firstClean, letterBefore, startAt};
 
 // Where a clean segment starts, or that there is none.
 pub enum Start {
@@ -28,37 +27,6 @@ fn letter_before(s: &[u8], at: usize, received: bool, f: u8) -> u8
         return s[at - 1];
     }
     f
-}
-
-// The marker of the message two places on stands at the place.
-fn marker_at(s: &[u8], at: usize, received: bool, f: u8) -> bool
-    requires { ⌜ Below 4 (now s) ⌝ }
-    requires { ⌜ (f < 4) × (0 < at) × (at + 3 < length (now s)) × (length (now s) ≤ 4096) ⌝ }
-    ensures { λ r. ⌜ r ≡ markerAt (letterBefore received f (now (s .entry)) at) (now (s .entry)) at ⌝ }
-{
-    let before = letter_before(s, at, received, f);
-    let marker = sep_of(before, s[at + 2], s[at + 3]);
-    if marker != s[at] {
-        return false;
-    }
-    marker == s[at + 1]
-}
-
-// The symbols of a tail at the front of an array.
-fn tail_symbols(tail: Tail) -> [u8; 20]
-    requires { ⌜ (tail .width ≤ 16) × (length (tail .syndrome) ≡ 16) ⌝ }
-    ensures { λ r. ⌜ (take (4 + tail .width) r ≡ tailOf tail) × (length r ≡ 20) ⌝ }
-{
-    let mut symbols = [tail.separator; 20];
-    symbols[0] = tail.check;
-    let width = tail.width;
-    let syndrome = tail.syndrome;
-    let mut i = 0;
-    while i < width {
-        symbols[4 + i] = syndrome[i];
-        i += 1;
-    }
-    symbols
 }
 
 // The first of `count` starts about p + n where a clean segment of k message symbols stands. f is the received symbol before the start, or the given one.
@@ -91,16 +59,16 @@ pub fn find_clean(
         if s.len() < at + size {
             continue 'starts;
         }
-        if !marker_at(s, at, received, f) {
+        let before = letter_before(s, at, received, f);
+        if !marker_stands(s, at, true, before) {
             continue 'starts;
         }
         let behind = at + (2 + k);
         let tail = tail_of(&s[at + 2..behind]);
         let width = tail.width;
-        let symbols = tail_symbols(tail);
         let mut j = 0;
         while j < 4 + width {
-            if symbols[j] != s[behind + j] {
+            if symbol_in(tail, j) != s[behind + j] {
                 continue 'starts;
             }
             j += 1;

@@ -15,11 +15,11 @@ use lib.ListN.{length, getD, take, drop, set, length-append, length-set}
 use lib.Seq.{take-suc, length-take-le, set-at}
 use Rattle.code.specs.Lists.{putAt, put-nothing, put-one, put-put}
 use Rattle.code.specs.Layers.{pair, bits, width}
-use Rattle.code.specs.Segment.{sep, marker, block, segment, size}
+use Rattle.code.specs.Segment.{sep, marker, segment, size}
 use Rattle.tail.specs.declared.Tail.{Tail}
-use Rattle.tail.specs.Tails.{mark, syndromeIn, IsTail, tailOf}
+use Rattle.tail.specs.Tails.{mark, IsTail, tailOf}
 use Rattle.tail.proofs.Steps.{bits-last}
-use Rattle.tail.proofs.Tails.{tail-symbols}
+use Rattle.tail.proofs.Tails.{tail-symbols, marked-block}
 
 -- one more symbol of a block
 pub put-step : (b d : List ℕ) (at i : ℕ) → i < length b → at + length b ≤ length d → set (putAt d at (take i b)) (at + i) (getD b i 0) ≡ putAt d at (take (i + 1) b)
@@ -70,12 +70,6 @@ module _ (d : List ℕ) (at high low t : ℕ) where
   bits-end zero h l o z b = let e : at + 0 ≡ at = omega arith in b .stands ∙ rw (e, ← b .whole)
   bits-end (suc i) h l o z b = absurd (omega arith)
 
--- a segment is its marker and its block
-pub marked-block : (marked : Bool) (f : ℕ) (m : List ℕ) → mark marked f m ++ block m ≡ segment marked f m
-unfolding mark segment
-marked-block true f m = refl
-marked-block false f m = refl
-
 pub mark-true : (marked : Bool) (f : ℕ) (m : List ℕ) → marked ≡ true → mark marked f m ≡ marker f m ∷ marker f m ∷ []
 unfolding mark
 mark-true marked f m e = rw e
@@ -97,11 +91,6 @@ mark-size false f m = refl
 -- two neighbouring blocks are one
 pub put-both : (d b c : List ℕ) (at n : ℕ) → n ≡ at + length b → n ≤ length d → putAt (putAt d at b) n c ≡ putAt d at (b ++ c)
 put-both d b c at n e h = rw e (put-put d at b (omega arith) c)
-
--- check and separators, and the syndrome behind them
-pub tail-parts : (t : Tail) → (t .check ∷ t .separator ∷ t .separator ∷ t .separator ∷ []) ++ syndromeIn t ≡ tailOf t
-unfolding tailOf
-tail-parts t = refl
 
 -- marker, message and tail, one behind the other, are the segment
 pub put-parts : (d o₁ o₂ m : List ℕ) (marked : Bool) (f at start : ℕ) (t : Tail) → IsTail m t → at + size marked (length m) ≤ length d → start ≡ at + length (mark marked f m) → o₁ ≡ putAt d at (mark marked f m) → o₂ ≡ putAt o₁ start m → putAt o₂ (start + length m) (tailOf t) ≡ putAt d at (segment marked f m)

@@ -3,20 +3,22 @@
 --   tail-symbols   a message and its tail are the block
 --   tail-below     a tail's symbols are symbols
 --   tail-last      the last symbol of a segment
+--   marked-block   a segment is its marker and its block
 use mathlib.Core.Path.{_≡_, refl, sym, ap, ap₂, _∙_}
+use mathlib.Core.Bool.{Bool, true, false}
 use mathlib.Core.List.{List, [], _∷_, _++_}
 use Prim.Native.Nat.{ℕ, zero, suc, _+_, _-_, _*_, _<_, _≤_}
 use native.Mathlib.Omega.{arith}
 use lib.ListN.{length, getD}
 use Rattle.code.specs.Symbols.{Below}
 use Rattle.code.specs.Layers.{bit, digit, layer, syndrome, number, pair, bits, width}
-use Rattle.code.specs.LayersLaws.{length-layer, bits-number, pair-layers}
-use Rattle.code.specs.Segment.{check, sep, separator, syndromeOf, block, lastOf}
+use Rattle.code.specs.LayersLaws.{length-layer, length-bits, length-pair, bits-number, pair-layers}
+use Rattle.code.specs.Segment.{check, sep, separator, syndromeOf, block, segment, lastOf}
 use Rattle.code.specs.SegmentLaws.{check-below, separator-apart, length-syndrome, syndrome-symbols-below, width-two}
 use Rattle.layers.specs.declared.Layers.{Layers}
 use Rattle.layers.specs.Answers.{both}
 use Rattle.tail.specs.declared.Tail.{Tail}
-use Rattle.tail.specs.Tails.{IsTail, tailOf}
+use Rattle.tail.specs.Tails.{mark, syndromeIn, IsTail, tailOf}
 use Rattle.tail.proofs.Steps.{bits-at}
 
 -- the parts that make a tail
@@ -59,6 +61,25 @@ module _ (m : List ℕ) (t : Tail) (e : IsTail m t) where
       let w = width-two (length m) h in
       let n : 3 + t .width ≡ suc (suc (suc (suc (t .width - 1)))) = omega (arith, e .width) in
       rw n (rw (e .symbols, e .width))
+
+-- a segment is its marker and its block
+pub marked-block : (marked : Bool) (f : ℕ) (m : List ℕ) → mark marked f m ++ block m ≡ segment marked f m
+unfolding mark segment
+marked-block true f m = refl
+marked-block false f m = refl
+
+-- check and separators, and the syndrome behind them
+pub tail-parts : (t : Tail) → (t .check ∷ t .separator ∷ t .separator ∷ t .separator ∷ []) ++ syndromeIn t ≡ tailOf t
+unfolding tailOf
+tail-parts t = refl
+
+-- how many symbols a tail has
+pub length-pairs : (n h l : ℕ) → length (pair (bits n h) (bits n l)) ≡ n
+length-pairs n h l = length-pair (bits n h) (bits n l) (length-bits n h ∙ sym (length-bits n l)) ∙ length-bits n h
+
+pub tail-length : (t : Tail) → length (tailOf t) ≡ 4 + t .width
+unfolding tailOf
+tail-length t = omega (arith, length-pairs (t .width) (t .high) (t .low))
 
 -- a symbol behind check and separators
 pub behind-four : (t : Tail) (i j : ℕ) → 4 ≤ i → i < 4 + t .width → j ≡ t .width + 3 - i → getD (tailOf t) i 0 ≡ 2 * digit (bit j (t .high)) + digit (bit j (t .low))

@@ -12,7 +12,7 @@ use Rattle.equal_segments.proofs.read_equal.Statement.{statement}
 use Rattle.equal_segments.proofs.read_equal.Tie as tie
 use Rattle.equal_segments.proofs.read_equal.Reads as reads
 use Rattle.equal_segments.proofs.read_equal.Lts as lts
-use Rattle.reading.proofs.walk.read_layout.Reads as read-layout-reads
+use Rattle.reading.proofs.read_layout.Reads as read-layout-reads
 
 array-share-prefix-lengths : tie.Need-array-share-prefix-lengths
 array-share-prefix-lengths c = search needs

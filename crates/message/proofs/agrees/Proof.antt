@@ -3,69 +3,50 @@ use mathlib.Core.Bool.{true}
 use Rattle.message.proofs.Steps.{took-moved, took-check, took-level}
 use Rattle.message.proofs.agrees.Statement.{statement}
 use Rattle.message.proofs.agrees.Tie as tie
-use Rattle.message.proofs.agrees.Reads as reads
-use Rattle.message.proofs.agrees.Lts as lts
-use Rattle.compare.proofs.tests.is_at.Reads as is-at-reads
-use Rattle.message.proofs.shifted.Reads as shifted-reads
-use Rattle.message.proofs.syndrome_at.Reads as syndrome-at-reads
 
--- src/lib.rt:189:50
 add-shifted : tie.Need-add-shifted
 add-shifted c = search needs
 
--- src/lib.rt:189:42
 shifted-requires : tie.Need-shifted-requires
 shifted-requires c κs = search needs
 
--- src/lib.rt:189:42
 add-syndrome-at : tie.Need-add-syndrome-at
 add-syndrome-at c = search needs
 
--- src/lib.rt:189:37
 add-syndrome-at-2 : tie.Need-add-syndrome-at-2
 add-syndrome-at-2 c = search needs
 
--- src/lib.rt:189:9
 syndrome-at-requires : tie.Need-syndrome-at-requires
 syndrome-at-requires c κs = search needs
 
--- src/lib.rt:189:9
 returns : tie.Need-returns
 returns c =
     let a = c .before .before .before .before .args in
     took-moved (a .j) (a .k) (a .d) (a .s .now) (a .tail) (c .syndrome-at .result) (c .before .shifted .result) (c .before .before .if1 .taken) (c .before .shifted .ensures .0) (c .syndrome-at .ensures)
 
--- src/lib.rt:191:29
 add-is-at : tie.Need-add-is-at
 add-is-at c = search needs
 
--- src/lib.rt:191:8
 is-at-requires : tie.Need-is-at-requires
 is-at-requires c κs = search needs
 
--- src/lib.rt:192:9
 returns-2 : tie.Need-returns-2
 returns-2 c =
     let a = c .before .before .before .before .args in
     took-check (a .j) (a .k) (a .d) (a .s .now) (a .tail) true (c .before .before .if1 .left) (c .before .is-at .result) (c .before .is-at .ensures) (c .if2 .taken)
 
--- src/lib.rt:194:31
 add-syndrome-at-3 : tie.Need-add-syndrome-at-3
 add-syndrome-at-3 c = search needs
 
--- src/lib.rt:194:31
 add-syndrome-at-4 : tie.Need-add-syndrome-at-4
 add-syndrome-at-4 c = search needs
 
--- src/lib.rt:194:26
 add-syndrome-at-5 : tie.Need-add-syndrome-at-5
 add-syndrome-at-5 c = search needs
 
--- src/lib.rt:194:5
 syndrome-at-requires-2 : tie.Need-syndrome-at-requires-2
 syndrome-at-requires-2 c κs = search needs
 
--- src/lib.rt:184:1
 returns-3 : tie.Need-returns-3
 returns-3 c =
     let a = c .before .before .before .before .before .args in

@@ -1,10 +1,10 @@
 use borrow.Author.Needs.{needs}
 use native.Mathlib.Omega.{arith}
-use lib.ListN.{length, drop, length-drop}
-use lib.Seq.{length-take-le}
+use lib.ListN.{length}
+use Rattle.standing.proofs.InPlace.{tail-room}
 use Rattle.message.specs.Answers.{shiftOf}
 use Rattle.message.proofs.Mends.{is-got}
-use Rattle.message.proofs.Steps.{moved-least, width-most, shift-read, shift-repaired}
+use Rattle.message.proofs.Steps.{moved-least, shift-read, shift-repaired}
 use Rattle.message.proofs.at_separator.Statement.{statement}
 use Rattle.message.proofs.at_separator.Tie as tie
 
@@ -15,8 +15,8 @@ agrees-requires c κs =
     let t = b .pre .1 .1 .0 .1 in
     let k = length (a .out .now) in
     let q = moved-least (shiftOf (a .j)) k in
-    let n = length-take-le k (drop (a .d) (a .s .now)) (simp length-drop (omega arith)) in
-    (omega arith, omega arith, omega arith, rw (t .width, n) (width-most k (omega arith)), t .room)
+    let r = tail-room (a .d) k (a .s .now) (a .tail) (omega arith) (omega arith) (omega arith) t in
+    (omega arith, omega arith, omega arith, r .0, r .1)
 
 taken-with-requires : tie.Need-taken-with-requires
 taken-with-requires c κs =

@@ -9,7 +9,7 @@ use Rattle.code.specs.Layers.{layer, number, pair}
 use Rattle.code.specs.LayersLaws.{pair-below}
 use Rattle.code.specs.Repair.{repair, mendedWord}
 use Rattle.layers.specs.Answers.{highs, lows}
-use Rattle.segment.specs.Tails.{IsTail}
+use Rattle.tail.specs.Tails.{IsTail}
 use Rattle.message.proofs.Mends.{lost-high, lost-low, read-both, gets-none, gets-word, word-length, mended-given}
 use Rattle.message.proofs.Steps.{width-most}
 use Rattle.message.proofs.mend_both.Statement.{statement}

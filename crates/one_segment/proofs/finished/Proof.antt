@@ -7,7 +7,7 @@ use lib.ListN.{length, take, drop, length-drop}
 use Rattle.code.specs.Segment.{segment}
 use Rattle.code.specs.Edits.{judged}
 use Rattle.scan.proofs.Starts.{size-room, start-at}
-use Rattle.one_segment.proofs.Ending.{end-inside}
+use Rattle.ending.proofs.Ending.{end-inside}
 use Rattle.one_segment.proofs.OneRead.{message-lost, message-read, end-lost, end-read, clean-behind}
 use Rattle.one_segment.proofs.finished.Statement.{statement}
 use Rattle.one_segment.proofs.finished.Tie as tie
@@ -54,7 +54,7 @@ compared-requires c κs =
     let e = c .before .before .before .end-of in
     let n = start-at (a .p) _ _ (e .result .start) (e .ensures .0) (c .before .start .given .1) in
     let i = end-inside (a .marked) S (a .message .now) (omega (arith, m .long, h .2, h .3)) _ _ (n .is) (omega (arith, size-room (a .marked) (length (a .message .now)) (omega (arith, m .long, h .2, h .3)) (omega (arith, m .long, h .2, h .3)) .0)) in
-    (m .small, (m .tail, ((n .behind, omega (arith, i, n .behind, length-drop (a .p) (a .s .now), h .0), h .1), (b .pre .1 .1 .0 .2, omega (arith, m .long, h .2, h .3), omega (arith, m .long, h .2, h .3)))))
+    (m .tail, ((n .behind, omega (arith, i, n .behind, length-drop (a .p) (a .s .now), h .0), h .1), (b .pre .1 .1 .0 .2, omega (arith, m .long, h .2, h .3), omega (arith, m .long, h .2, h .3))))
 
 returns-3 : tie.Need-returns-3
 returns-3 c =

@@ -79,7 +79,7 @@ compared-requires c κs =
     let z = clean-stands (length (a .out .now)) (a .f) (a .p) (a .s .now) (b .pre .1 .1) in
     let o = c .before .before .before .before .before .before .before .copy in
     let n : length (o .last .1 .1 .0) ≡ length (a .out .now) = ap length (o .ensures) ∙ M-long true (a .f) (length (a .out .now)) (a .p) (a .p + 2) (a .s .now) (omega arith) (b .pre .0) refl (z .1) (z .0) in
-    (subst (Below 4) (sym (o .ensures)) (M-small true (a .f) (length (a .out .now)) (a .p) (a .p + 2) (a .s .now) (omega arith) (b .pre .0) refl (z .1) (z .0)), (c .before .tail-given .ensures, ((omega arith, omega arith, omega arith), (omega arith, omega (arith, n), omega (arith, n)))))
+    (c .before .tail-given .ensures, ((omega arith, omega arith, omega arith), (omega arith, omega (arith, n), omega (arith, n))))
 
 same-length-2 : tie.Need-same-length-2
 same-length-2 c = search needs

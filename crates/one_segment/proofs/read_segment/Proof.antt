@@ -4,7 +4,7 @@ use native.Mathlib.Omega.{arith}
 use mathlib.Core.Path.{sym, subst}
 use lib.ListN.{length, drop}
 use Rattle.code.specs.Reading.{readOne}
-use Rattle.one_segment.specs.Ones.{followers}
+use Rattle.ending.specs.Followers.{followers}
 use Rattle.one_segment.proofs.OneRead.{Answers}
 use Rattle.one_segment.proofs.read_segment.Statement.{statement}
 use Rattle.one_segment.proofs.read_segment.Tie as tie

@@ -1,113 +1,160 @@
-use mathlib.Core.Path.{_≡_, refl, sym, ap, _∙_}
-use mathlib.Core.List.{List}
-use Prim.Native.Nat.{ℕ, _+_, _-_, _≤_}
+use mathlib.Core.Path.{_≡_, refl, sym, _∙_}
+use Prim.Native.Nat.{_+_, _-_, _≤_}
 use native.Mathlib.Omega.{arith}
 use borrow.Author.Tests.{not-true, not-false}
 use lib.ListN.{length, drop}
-use Rattle.code.specs.Reading.{clean, starts}
+use Rattle.code.specs.Reading.{clean}
 use Rattle.compare.specs.OffsetsLaws.{tried-small}
 use Rattle.scan.specs.Scans.{letterBefore}
-use Rattle.scan.specs.ScansLaws.{clean-short}
-use Rattle.scan.proofs.Scanning.{left, left-whole, left-end, left-zero, left-pass, left-found, unmarked, marked, tail-is, Compared, compared-begin, compared-turn, compared-stop, compared-end, size-is, width-small, part-is, part-long, part-width}
+use Rattle.scan.specs.ScansLaws.{clean-short, letter-below}
+use Rattle.scan.proofs.Scanning.{left, left-whole, left-end, left-zero, left-pass, left-found, unmarked, marked, Compared, compared-begin, compared-turn, compared-stop, compared-end, size-is, width-small, part-long, part-tail, part-width}
 use Rattle.scan.proofs.find_clean.Statement.{statement}
 use Rattle.scan.proofs.find_clean.Tie as tie
 
--- the clean test is what is left of the comparison
 abbrev Inv-loop : tie.InvT-loop
-Inv-loop s p n k count received f size tried offset at behind width symbols j₀ j = Compared s symbols behind width (clean k (letterBefore received f s at) (drop at s)) j
+Inv-loop s p n k count received f size tried offset at before behind tail width j₀ j = Compared s tail behind (clean k (letterBefore received f s at) (drop at s)) j
 
 abbrev μ-loop : tie.MeasureT-loop
-μ-loop s p n k count received f size tried offset at behind width symbols j₀ j = 4 + width - j
+μ-loop s p n k count received f size tried offset at before behind tail width j₀ j = 4 + width - j
 
--- the answer is that of the starts that are left
 abbrev Inv-starts : tie.InvT-starts
 Inv-starts s p n k count received f size tried₀ tried = (tried ≤ count) × (left s p n k count received f 0 ≡ left s p n k count received f tried)
 
 abbrev μ-starts : tie.MeasureT-starts
 μ-starts s p n k count received f size tried₀ tried = count - tried
 
--- a start that is not above p
+size-of-requires : tie.Need-size-of-requires Inv-loop μ-loop Inv-starts μ-starts
+size-of-requires c κs = (omega arith, omega arith)
+
+starts-holds : tie.Need-starts-holds Inv-loop μ-loop Inv-starts μ-starts
+starts-holds c = (omega arith, refl)
+
+moved-by-requires : tie.Need-moved-by-requires Inv-loop μ-loop Inv-starts μ-starts
+moved-by-requires c κs = (omega arith, omega arith, omega arith)
+
+add-tried : tie.Need-add-tried Inv-loop μ-loop Inv-starts μ-starts
+add-tried c = omega arith
+
+starts-less : tie.Need-starts-less Inv-loop μ-loop Inv-starts μ-starts
+starts-less c = omega arith
+
 starts-again : tie.Need-starts-again Inv-loop μ-loop Inv-starts μ-starts
 starts-again c =
-    let a = c .before .before .before .before .before .before .args in
-    let o = c .before .before .before .starts in
-    let m = c .before .moved-by in
+    let a = c .before .before .before .before .before .before .args in let o = c .before .before .before .starts in let m = c .before .moved-by in
     (omega arith, o .inv .1 ∙ left-zero (a .s .now) (a .p) (a .n) (a .k) (a .count) (a .received) (a .f) (o .tried) (m .result) (omega arith) (omega arith) (m .ensures) (c .if2 .taken))
 
--- too little room
+add-at : tie.Need-add-at Inv-loop μ-loop Inv-starts μ-starts
+add-at c = omega (arith, tried-small (c .before .before .before .before .before .before .args .n) (c .before .before .before .starts .tried) (omega arith))
+
+add-if3 : tie.Need-add-if3 Inv-loop μ-loop Inv-starts μ-starts
+add-if3 c = omega (arith, tried-small (c .before .before .before .before .before .before .args .n) (c .before .before .before .starts .tried) (omega arith), size-is (c .before .before .before .before .before .before .args .k), width-small (c .before .before .before .before .before .before .args .k) (omega arith))
+
+starts-less-2 : tie.Need-starts-less-2 Inv-loop μ-loop Inv-starts μ-starts
+starts-less-2 c = omega arith
+
 starts-again-2 : tie.Need-starts-again-2 Inv-loop μ-loop Inv-starts μ-starts
 starts-again-2 c =
-    let a = c .before .before .before .before .before .before .before .args in
-    let o = c .before .before .before .before .starts in
-    let m = c .before .before .moved-by in
+    let a = c .before .before .before .before .before .before .before .args in let o = c .before .before .before .before .starts in let m = c .before .before .moved-by in
     (omega arith, o .inv .1 ∙ left-pass (a .s .now) (a .p) (a .n) (a .k) (a .count) (a .received) (a .f) (o .tried) (m .result) (omega arith) (omega arith) (m .ensures) (omega arith) (clean-short (a .k) _ (a .s .now) (a .p + m .result) (omega arith)))
 
--- no marker
+letter-before-requires : tie.Need-letter-before-requires Inv-loop μ-loop Inv-starts μ-starts
+letter-before-requires c κs = (omega arith, omega (arith, size-is (c .before .before .before .before .before .before .before .args .k), width-small (c .before .before .before .before .before .before .before .args .k) (omega arith)))
+
+marker-stands-requires : tie.Need-marker-stands-requires Inv-loop μ-loop Inv-starts μ-starts
+marker-stands-requires c κs = let b = c .before .before .before .before .before .before .before .before in let a = b .args in let x = c .letter-before in (rw (x .ensures) (letter-below (a .received) (a .f) (a .s .now) (b .pre .0) (b .pre .1 .1 .3) (a .p + c .before .before .before .moved-by .result)), omega (arith, size-is (c .before .before .before .before .before .before .before .before .args .k), width-small (c .before .before .before .before .before .before .before .before .args .k) (omega arith)), omega arith)
+
+starts-less-3 : tie.Need-starts-less-3 Inv-loop μ-loop Inv-starts μ-starts
+starts-less-3 c = omega arith
+
 starts-again-3 : tie.Need-starts-again-3 Inv-loop μ-loop Inv-starts μ-starts
 starts-again-3 c =
-    let a = c .before .before .before .before .before .before .before .before .before .args in
-    let o = c .before .before .before .before .before .before .starts in
-    let m = c .before .before .before .before .moved-by in
-    (omega arith, o .inv .1 ∙ left-pass (a .s .now) (a .p) (a .n) (a .k) (a .count) (a .received) (a .f) (o .tried) (m .result) (omega arith) (omega arith) (m .ensures) (omega arith) (unmarked (a .k) _ (a .s .now) (a .p + m .result) (omega arith) (omega arith) _ refl (c .before .marker-at .result) (c .before .marker-at .ensures) (not-true _ (c .if4 .taken))))
+    let a = c .before .before .before .before .before .before .before .before .before .before .args in let o = c .before .before .before .before .before .before .before .starts in let m = c .before .before .before .before .before .moved-by in
+    (omega arith, o .inv .1 ∙ left-pass (a .s .now) (a .p) (a .n) (a .k) (a .count) (a .received) (a .f) (o .tried) (m .result) (omega arith) (omega arith) (m .ensures) (omega arith) (rw (← c .before .before .letter-before .ensures) (unmarked (a .k) (c .before .before .letter-before .result) (a .s .now) (a .p + m .result) (c .before .marker-stands .result) (c .before .marker-stands .ensures) (omega arith) (not-true _ (c .if4 .taken)))))
 
--- the tail is short enough for the array
-tail-symbols-requires : tie.Need-tail-symbols-requires Inv-loop μ-loop Inv-starts μ-starts
-tail-symbols-requires c κs =
-    let a = c .before .before .before .before .before .before .before .before .before .before .before .args in
-    let m = c .before .before .before .before .before .before .moved-by in
-    let e = c .tail-of in
-    let w = part-width (a .s .now) (a .p + m .result) (a .k) (omega (arith, size-is (a .k))) (e .result) (e .ensures) in
-    (omega (arith, width-small (a .k) (omega arith)), e .ensures .room)
+add-behind : tie.Need-add-behind Inv-loop μ-loop Inv-starts μ-starts
+add-behind c = omega arith
 
--- with the marker, the tail decides
+add-behind-2 : tie.Need-add-behind-2 Inv-loop μ-loop Inv-starts μ-starts
+add-behind-2 c = omega (arith, tried-small (c .before .before .before .before .before .before .before .before .before .before .args .n) (c .before .before .before .before .before .before .before .starts .tried) (omega arith))
+
+add-tail-of : tie.Need-add-tail-of Inv-loop μ-loop Inv-starts μ-starts
+add-tail-of c = omega (arith, tried-small (c .before .before .before .before .before .before .before .before .before .before .args .n) (c .before .before .before .before .before .before .before .starts .tried) (omega arith))
+
+sub-tail-of : tie.Need-sub-tail-of Inv-loop μ-loop Inv-starts μ-starts
+sub-tail-of c = omega arith
+
+part-tail-of-start : tie.Need-part-tail-of-start Inv-loop μ-loop Inv-starts μ-starts
+part-tail-of-start c = omega arith
+
+part-tail-of-end : tie.Need-part-tail-of-end Inv-loop μ-loop Inv-starts μ-starts
+part-tail-of-end c = omega (arith, size-is (c .before .before .before .before .before .before .before .before .before .before .args .k), width-small (c .before .before .before .before .before .before .before .before .before .before .args .k) (omega arith))
+
+tail-of-requires : tie.Need-tail-of-requires Inv-loop μ-loop Inv-starts μ-starts
+tail-of-requires c κs =
+    let a = c .before .before .before .before .before .before .before .before .before .before .before .args in let o = c .before .before .before .before .before .before .before .before .starts in let m = c .before .before .before .before .before .before .moved-by in
+    let l = part-long (a .s .now) (a .p + m .result) (a .k) (omega (arith, size-is (a .k))) in
+    (omega arith, omega arith)
+
 loop-holds : tie.Need-loop-holds Inv-loop μ-loop Inv-starts μ-starts
 loop-holds c =
-    let a = c .before .before .before .before .before .before .before .before .before .before .before .before .args in
-    let m = c .before .before .before .before .before .before .before .moved-by in
-    let e = c .before .tail-of in
-    let y = c .tail-symbols in
+    let a = c .before .before .before .before .before .before .before .before .before .before .before .before .args in let o = c .before .before .before .before .before .before .before .before .before .starts in let m = c .before .before .before .before .before .before .before .moved-by in
+    let e = c .tail-of in
     let s = a .s .now in
     let at = a .p + m .result in
-    let room : at + (2 + a .k) ≤ length s = omega (arith, size-is (a .k)) in
+    let z = c .before .before .before .before .before .before .before .before .before .before .size-of .ensures in
+    let g = c .before .before .before .before .before .if3 .left in
+    let room : at + (2 + a .k) ≤ length s = omega (arith, z, g, size-is (a .k)) in
     let w = part-width s at (a .k) room (e .result) (e .ensures) in
     let l = width-small (a .k) (omega arith) in
-    let d = marked (a .k) (letterBefore (a .received) (a .f) s at) s at (omega arith) (omega arith) _ (part-is s at (a .k) room) (c .before .before .before .before .marker-at .result) (c .before .before .before .before .marker-at .ensures) (not-false _ (c .before .before .before .if4 .left)) in
-    let q = y .ensures .0 ∙ tail-is _ (e .result) (e .ensures) in
-    compared-begin s (y .result) (at + (2 + a .k)) (e .result .width) _ (omega arith) (y .ensures .1) (omega (arith, size-is (a .k)))
-    (d ∙ ap (λ (u : List ℕ). starts u (drop (at + (2 + a .k)) s)) (sym q))
+    let x = c .before .before .before .before .letter-before in
+    let d = marked (a .k) (x .result) s at (c .before .before .before .marker-stands .result) (c .before .before .before .marker-stands .ensures) (c .before .before .before .before .before .before .before .before .before .before .before .before .pre .1 .1 .0) (not-false _ (c .before .before .if4 .left)) (e .result) (part-tail s at (a .k) room (e .result) (e .ensures)) in
+    compared-begin s (e .result) (at + (2 + a .k)) _ (omega (arith, w, l)) (omega (arith, z, g, w, size-is (a .k))) (rw (← x .ensures) d)
 
--- a wrong symbol behind the message
+add-loop : tie.Need-add-loop Inv-loop μ-loop Inv-starts μ-starts
+add-loop c = let i = c .loop .inv in omega (arith, i .fits)
+
+symbol-in-requires : tie.Need-symbol-in-requires Inv-loop μ-loop Inv-starts μ-starts
+symbol-in-requires c κs = let i = c .before .loop .inv in (omega arith, i .fits)
+
+add-if5 : tie.Need-add-if5 Inv-loop μ-loop Inv-starts μ-starts
+add-if5 c = let i = c .before .before .loop .inv in omega (arith, i .within)
+
+shared-slice-read-if5 : tie.Need-shared-slice-read-if5 Inv-loop μ-loop Inv-starts μ-starts
+shared-slice-read-if5 c = let i = c .before .before .before .loop .inv in omega (arith, i .within)
+
+starts-less-4 : tie.Need-starts-less-4 Inv-loop μ-loop Inv-starts μ-starts
+starts-less-4 c = omega arith
+
 starts-again-4 : tie.Need-starts-again-4 Inv-loop μ-loop Inv-starts μ-starts
 starts-again-4 c =
-    let a = c .before .before .before .before .before .before .before .before .before .before .before .before .before .before .before .before .args in
-    let o = c .before .before .before .before .before .before .before .before .before .before .before .before .before .starts in
-    let m = c .before .before .before .before .before .before .before .before .before .before .before .moved-by in
-    let l = c .before .before .before .loop in
-    (omega arith, o .inv .1 ∙ left-pass (a .s .now) (a .p) (a .n) (a .k) (a .count) (a .received) (a .f) (o .tried) (m .result) (omega arith) (omega arith) (m .ensures) (omega arith) (compared-stop (a .s .now) (c .before .before .before .before .tail-symbols .result) (a .p + m .result + (2 + a .k)) (c .before .before .before .before .before .tail-of .result .width) (clean (a .k) (letterBefore (a .received) (a .f) (a .s .now) (a .p + m .result)) (drop (a .p + m .result) (a .s .now))) (l .j) (l .inv) (c .before .before .loop-test .taken) (c .if5 .taken)))
+    let a = c .before .before .before .before .before .before .before .before .before .before .before .before .before .before .before .before .before .args in let o = c .before .before .before .before .before .before .before .before .before .before .before .before .before .before .starts in let m = c .before .before .before .before .before .before .before .before .before .before .before .before .moved-by in
+    let l = c .before .before .before .before .loop in
+    let x = c .before .before .symbol-in in
+    (omega arith, o .inv .1 ∙ left-pass (a .s .now) (a .p) (a .n) (a .k) (a .count) (a .received) (a .f) (o .tried) (m .result) (omega arith) (omega arith) (m .ensures) (omega arith) (compared-stop (a .s .now) (c .before .before .before .before .before .tail-of .result) (a .p + m .result + (2 + a .k)) (clean (a .k) (letterBefore (a .received) (a .f) (a .s .now) (a .p + m .result)) (drop (a .p + m .result) (a .s .now))) (l .j) (l .inv) (c .before .before .before .loop-test .taken) (x .result) (x .ensures) (c .if5 .taken)))
 
--- one more symbol agrees
+add-j : tie.Need-add-j Inv-loop μ-loop Inv-starts μ-starts
+add-j c = let i = c .before .before .before .before .loop .inv in omega (arith, i .fits)
+
+loop-less : tie.Need-loop-less Inv-loop μ-loop Inv-starts μ-starts
+loop-less c = omega arith
+
 loop-again : tie.Need-loop-again Inv-loop μ-loop Inv-starts μ-starts
 loop-again c =
-    let a = c .before .before .before .before .before .before .before .before .before .before .before .before .before .before .before .before .args in
-    let m = c .before .before .before .before .before .before .before .before .before .before .before .moved-by in
-    let l = c .before .before .before .loop in
-    compared-turn (a .s .now) (c .before .before .before .before .tail-symbols .result) (a .p + m .result + (2 + a .k)) (c .before .before .before .before .before .tail-of .result .width) (clean (a .k) (letterBefore (a .received) (a .f) (a .s .now) (a .p + m .result)) (drop (a .p + m .result) (a .s .now))) (l .j) (l .inv) (c .before .before .loop-test .taken) (c .if5 .left)
+    let a = c .before .before .before .before .before .before .before .before .before .before .before .before .before .before .before .before .before .args in let o = c .before .before .before .before .before .before .before .before .before .before .before .before .before .before .starts in let m = c .before .before .before .before .before .before .before .before .before .before .before .before .moved-by in
+    let l = c .before .before .before .before .loop in
+    let x = c .before .before .symbol-in in
+    compared-turn (a .s .now) (c .before .before .before .before .before .tail-of .result) (a .p + m .result + (2 + a .k)) (clean (a .k) (letterBefore (a .received) (a .f) (a .s .now) (a .p + m .result)) (drop (a .p + m .result) (a .s .now))) (l .j) (l .inv) (c .before .before .before .loop-test .taken) (x .result) (x .ensures) (c .if5 .left)
 
--- no start is left
 returns : tie.Need-returns Inv-loop μ-loop Inv-starts μ-starts
 returns c =
-    let a = c .before .before .before .before .args in
-    let o = c .before .starts in
+    let a = c .before .before .before .before .args in let o = c .before .starts in
     sym (sym (left-whole (a .s .now) (a .p) (a .n) (a .k) (a .count) (a .received) (a .f)) ∙ o .inv .1 ∙ left-end (a .s .now) (a .p) (a .n) (a .k) (a .count) (a .received) (a .f) (o .tried) (c .if1 .taken) (omega arith))
 
--- all symbols agree
 returns-2 : tie.Need-returns-2 Inv-loop μ-loop Inv-starts μ-starts
 returns-2 c =
-    let a = c .before .before .before .before .before .before .before .before .before .before .before .before .before .before .args in
-    let o = c .before .before .before .before .before .before .before .before .before .before .before .starts in
-    let m = c .before .before .before .before .before .before .before .before .before .moved-by in
+    let a = c .before .before .before .before .before .before .before .before .before .before .before .before .before .before .args in let o = c .before .before .before .before .before .before .before .before .before .before .before .starts in let m = c .before .before .before .before .before .before .before .before .before .moved-by in
     let l = c .before .loop in
-    sym (sym (left-whole (a .s .now) (a .p) (a .n) (a .k) (a .count) (a .received) (a .f)) ∙ o .inv .1 ∙ left-found (a .s .now) (a .p) (a .n) (a .k) (a .count) (a .received) (a .f) (o .tried) (m .result) (omega arith) (omega arith) (m .ensures) (omega arith) (compared-end (a .s .now) (c .before .before .tail-symbols .result) (a .p + m .result + (2 + a .k)) (c .before .before .before .tail-of .result .width) (clean (a .k) (letterBefore (a .received) (a .f) (a .s .now) (a .p + m .result)) (drop (a .p + m .result) (a .s .now))) (l .j) (l .inv) (omega arith)))
+    sym (sym (left-whole (a .s .now) (a .p) (a .n) (a .k) (a .count) (a .received) (a .f)) ∙ o .inv .1 ∙ left-found (a .s .now) (a .p) (a .n) (a .k) (a .count) (a .received) (a .f) (o .tried) (m .result) (omega arith) (omega arith) (m .ensures) (omega arith) (compared-end (a .s .now) (c .before .before .tail-of .result) (a .p + m .result + (2 + a .k)) (clean (a .k) (letterBefore (a .received) (a .f) (a .s .now) (a .p + m .result)) (drop (a .p + m .result) (a .s .now))) (l .j) (l .inv) (omega arith)))
 
 pub find-clean-spec : {M : Type 1} → statement M
 find-clean-spec =
@@ -117,36 +164,36 @@ find-clean-spec =
     μ-loop
     Inv-starts
     μ-starts
-    (λ c κs. (omega arith, omega arith))
-    (λ c. (omega arith, refl))
-    (λ c κs. (omega arith, omega arith, omega arith))
-    (λ c. omega arith)
-    (λ c. omega arith)
+    size-of-requires
+    starts-holds
+    moved-by-requires
+    add-tried
+    starts-less
     starts-again
-    (λ c. omega (arith, tried-small (c .before .before .before .before .before .before .args .n) (c .before .before .before .starts .tried) (omega arith)))
-    (λ c. omega (arith, tried-small (c .before .before .before .before .before .before .args .n) (c .before .before .before .starts .tried) (omega arith), size-is (c .before .before .before .before .before .before .args .k), width-small (c .before .before .before .before .before .before .args .k) (omega arith)))
-    (λ c. omega arith)
+    add-at
+    add-if3
+    starts-less-2
     starts-again-2
-    (λ c κs. (c .before .before .before .before .before .before .before .pre .0, (omega arith, omega arith, omega (arith, size-is (c .before .before .before .before .before .before .before .args .k), width-small (c .before .before .before .before .before .before .before .args .k) (omega arith)), omega arith)))
-    (λ c. omega arith)
+    letter-before-requires
+    marker-stands-requires
+    starts-less-3
     starts-again-3
-    (λ c. omega arith)
-    (λ c. omega (arith, tried-small (c .before .before .before .before .before .before .before .before .before .args .n) (c .before .before .before .before .before .before .starts .tried) (omega arith)))
-    (λ c. omega (arith, tried-small (c .before .before .before .before .before .before .before .before .before .args .n) (c .before .before .before .before .before .before .starts .tried) (omega arith)))
-    (λ c. omega arith)
-    (λ c. omega arith)
-    (λ c. omega (arith, size-is (c .before .before .before .before .before .before .before .before .before .args .k), width-small (c .before .before .before .before .before .before .before .before .before .args .k) (omega arith)))
-    (λ c κs. let l = part-long (c .before .before .before .before .before .before .before .before .before .before .args .s .now) (c .before .before .before .before .before .before .before .before .before .before .args .p + c .before .before .before .before .before .moved-by .result) (c .before .before .before .before .before .before .before .before .before .before .args .k) (omega (arith, size-is (c .before .before .before .before .before .before .before .before .before .before .args .k))) in (omega arith, omega arith))
-    tail-symbols-requires
+    add-behind
+    add-behind-2
+    add-tail-of
+    sub-tail-of
+    part-tail-of-start
+    part-tail-of-end
+    tail-of-requires
     loop-holds
-    (λ c. omega arith)
-    (λ c. omega arith)
-    (λ c. omega arith)
-    (λ c. omega arith)
-    (λ c. omega arith)
+    add-loop
+    symbol-in-requires
+    add-if5
+    shared-slice-read-if5
+    starts-less-4
     starts-again-4
-    (λ c. omega arith)
-    (λ c. omega arith)
+    add-j
+    loop-less
     loop-again
     returns
     returns-2)

@@ -1,0 +1,182 @@
+-- A written segment stands where its parts do.
+--   Left                          the answer is that of the syndrome symbols that are not yet compared
+--   tail-seen                     check and separators, and the syndrome behind them
+--   marker-seen, no-marker        the marker
+--   mark-fails, segment-seen      marker and tail
+--   may-follow, may-last          where a segment may end
+use mathlib.Core.Path.{_≡_, refl, sym, ap, subst, _∙_}
+use mathlib.Core.Bool.{Bool, true, false, true≢false, _&&_}
+use mathlib.Core.List.{List, [], _∷_, _++_}
+use Prim.Native.Nat.{ℕ, zero, suc, _+_, _-_, _*_, _/_, _≤_, _<_}
+use borrow.Author.Tests.{eq-eqb, ne-eqb}
+use lib.Bits.{bitAnd}
+use native.Mathlib.Omega.{arith}
+use lib.Dec.{eqb}
+use lib.ListN.{length, getD, take, drop, length-drop}
+use lib.Seq.{drop-cons, drop-drop, getD-drop, getD-take, length-take-le}
+use Rattle.code.specs.Layers.{pair, bits, width}
+use Rattle.code.specs.LayersLaws.{width-least}
+use Rattle.code.specs.Segment.{sep, marker, block, segment}
+use Rattle.code.specs.SegmentLaws.{width-two}
+use Rattle.code.specs.Reading.{starts, dataAt}
+use Rattle.compare.proofs.Standing.{block-past}
+use Rattle.tail.specs.declared.Tail.{Tail}
+use Rattle.tail.specs.Tails.{mark, syndromeIn, IsTail, tailOf}
+use Rattle.tail.proofs.Steps.{bits-last}
+use Rattle.tail.proofs.Tails.{tail-symbols, tail-parts, marked-block, length-pairs}
+use Rattle.standing.specs.Ends.{mayEnd}
+
+-- a block in two parts
+pub starts-append : (a b s : List ℕ) → starts (a ++ b) s ≡ (starts a s && starts b (drop (length a) s))
+unfolding starts
+starts-append [] b s = refl
+starts-append (x ∷ a) b [] = refl
+starts-append (x ∷ a) b (y ∷ s) = go (eqb x y) (starts-append a b s)
+  where
+    go : (c : Bool) → starts (a ++ b) s ≡ (starts a s && starts b (drop (length a) s)) → (c && starts (a ++ b) s) ≡ (c && starts a s && starts b (drop (length a) s))
+    go true h = h
+    go false h = refl
+
+-- a list starts with its own front; what else is demanded stands behind it
+starts-behind : (k : ℕ) (l t : List ℕ) → starts (take k l ++ t) l ≡ starts t (drop k l)
+unfolding starts
+starts-behind zero l t = refl
+starts-behind (suc k) [] t = refl
+starts-behind (suc k) (x ∷ l) t = rw (eq-eqb x x refl) (starts-behind k l t)
+
+and-true : (a : Bool) → (a && true) ≡ a
+and-true true = refl
+and-true false = refl
+
+and-false : (a : Bool) → (a && false) ≡ false
+and-false true = refl
+and-false false = refl
+
+-- a test in two parts, and one more behind it
+module _ (both first second : Bool) (parts : both ≡ (first && second)) where
+  pub fails : first ≡ false → false ≡ both
+  fails e = sym (parts ∙ rw e)
+
+  pub holds : first ≡ true → (x : Bool) → x ≡ second → x ≡ both
+  holds e x f = f ∙ sym (parts ∙ rw e)
+
+  module _ (end : Bool) where
+    pub first-fails : first ≡ false → false ≡ (both && end)
+    first-fails e = rw (parts, e)
+
+    pub second-fails : first ≡ true → second ≡ false → false ≡ (both && end)
+    second-fails e f = rw (parts, e, f)
+
+    pub both-hold : first ≡ true → second ≡ true → (x : Bool) → x ≡ end → x ≡ (both && end)
+    both-hold e f x g = rw (parts, e, f) g
+
+-- too few symbols for a syndrome
+pub syndrome-past : (t : Tail) (s : List ℕ) (at : ℕ) → 0 < t .width → length s < at + t .width → starts (syndromeIn t) (drop at s) ≡ false
+syndrome-past t s at some h = block-past s at (syndromeIn t) (rw (length-pairs (t .width) (t .high) (t .low)) (omega arith))
+
+-- the last symbol is compared, and those before it are left
+one-left : (n h l at : ℕ) (s : List ℕ) → at + n < length s → starts (pair (bits (suc n) h) (bits (suc n) l)) (drop at s) ≡ (starts (pair (bits n (h / 2)) (bits n (l / 2))) (drop at s) && eqb (2 * bitAnd h 1 + bitAnd l 1) (getD s (at + n) 0))
+unfolding starts
+one-left n h l at s inside =
+    let x = 2 * bitAnd h 1 + bitAnd l 1 in
+    let rest = pair (bits n (h / 2)) (bits n (l / 2)) in
+    let one : starts (x ∷ []) (drop (at + n) s) ≡ eqb x (getD s (at + n) 0) = rw (drop-cons s (at + n) 0 inside) (and-true (eqb x (getD s (at + n) 0))) in
+    rw (bits-last n h l, starts-append rest (x ∷ []) (drop at s), length-pairs n (h / 2) (l / 2), drop-drop n at s, one)
+
+module _ (s : List ℕ) (at t high low : ℕ) where
+  abbrev answer : Bool
+  answer = starts (pair (bits t high) (bits t low)) (drop at s)
+
+  -- the first i symbols are left, of what is left of both numbers
+  pub record Left (i h l : ℕ) : Type 0 where
+    pub inside : i ≤ t
+    pub rest : answer ≡ starts (pair (bits i h) (bits i l)) (drop at s)
+
+  pub left-begin : Left t high low
+  left-begin = record { inside = omega arith; rest = refl }
+
+  module _ (i h l : ℕ) (known : Left i h l) where
+    module _ (some : 0 < i) (room : at + t ≤ length s) where
+      next : answer ≡ (starts (pair (bits (i - 1) (h / 2)) (bits (i - 1) (l / 2))) (drop at s) && eqb (2 * bitAnd h 1 + bitAnd l 1) (getD s (at + (i - 1)) 0))
+      next =
+          let e : i ≡ suc (i - 1) = omega arith in
+          known .rest ∙ (ap (λ (n : ℕ). starts (pair (bits n h) (bits n l)) (drop at s)) e ∙ one-left (i - 1) h l at s (omega (arith, known .inside)))
+
+      pub left-turn : 2 * bitAnd h 1 + bitAnd l 1 ≡ getD s (at + (i - 1)) 0 → Left (i - 1) (h / 2) (l / 2)
+      left-turn same = record { inside = omega (arith, known .inside); rest = next ∙ rw (eq-eqb (2 * bitAnd h 1 + bitAnd l 1) (getD s (at + (i - 1)) 0) same) (and-true (starts (pair (bits (i - 1) (h / 2)) (bits (i - 1) (l / 2))) (drop at s))) }
+
+      pub left-stop : (2 * bitAnd h 1 + bitAnd l 1 ≡ getD s (at + (i - 1)) 0 → ⊥) → answer ≡ false
+      left-stop other = next ∙ rw (ne-eqb (2 * bitAnd h 1 + bitAnd l 1) (getD s (at + (i - 1)) 0) other) (and-false (starts (pair (bits (i - 1) (h / 2)) (bits (i - 1) (l / 2))) (drop at s)))
+
+    pub left-end : i ≤ 0 → answer ≡ true
+    unfolding pair bits starts
+    left-end z = let e : i ≡ 0 = omega arith in known .rest ∙ rw e
+
+-- check and separators, and the syndrome behind them
+pub tail-seen : (t : Tail) (s : List ℕ) (at : ℕ) → starts (tailOf t) (drop at s) ≡ (starts (t .check ∷ t .separator ∷ t .separator ∷ t .separator ∷ []) (drop at s) && starts (syndromeIn t) (drop (at + 4) s))
+tail-seen t s at = ap (λ (w : List ℕ). starts w (drop at s)) (sym (tail-parts t)) ∙ (starts-append (t .check ∷ t .separator ∷ t .separator ∷ t .separator ∷ []) (syndromeIn t) (drop at s) ∙ rw (drop-drop 4 at s))
+
+-- a marker and two symbols behind it are inside
+pub marker-room : (marked : Bool) (p n : ℕ) → marked ≡ true → p + dataAt marked + 2 ≤ n → p + 4 ≤ n
+marker-room true p n e h = omega arith
+marker-room false p n e h = absurd (true≢false (sym e))
+
+module _ (marked : Bool) (f p : ℕ) (s : List ℕ) where
+  abbrev D : List ℕ
+  D = drop (dataAt marked) (drop p s)
+
+  pub marker-seen : marked ≡ true → (m : ℕ) → m ≡ sep f (getD s (p + 2) 0) (getD s (p + 3) 0) → (r : Bool) → r ≡ starts (m ∷ m ∷ []) (drop p s) → r ≡ starts (mark marked f D) (drop p s)
+  unfolding mark marker
+  marker-seen e m is r h =
+      let first : getD (drop 2 (drop p s)) 0 0 ≡ getD s (p + 2) 0 = getD-drop 2 (drop p s) 0 0 ∙ getD-drop p s 2 0 in
+      let second : getD (drop 2 (drop p s)) 1 0 ≡ getD s (p + 3) 0 = getD-drop 2 (drop p s) 1 0 ∙ getD-drop p s 3 0 in
+      rw (e, first, second, ← is) h
+
+  pub no-marker : marked ≡ false → true ≡ starts (mark marked f D) (drop p s)
+  unfolding mark starts
+  no-marker e = rw e
+
+  -- the marker of the k symbols at D
+  module _ (k : ℕ) (two : 2 ≤ k) where
+    same-mark : (b : Bool) → mark b f (take k D) ≡ mark b f D
+    unfolding mark marker
+    same-mark true = rw (getD-take k D 0 0 (omega arith), getD-take k D 1 0 (omega arith))
+    same-mark false = refl
+
+    -- without the marker no segment stands
+    pub mark-fails : starts (mark marked f D) (drop p s) ≡ false → starts (segment marked f (take k D)) (drop p s) ≡ false
+    mark-fails e = ap (λ (w : List ℕ). starts w (drop p s)) (sym (marked-block marked f (take k D))) ∙ (starts-append (mark marked f (take k D)) (block (take k D)) (drop p s) ∙ rw (same-mark marked, e))
+
+  -- the k symbols at D, with their tail
+  module _ (d k : ℕ) (t : Tail) (place : d ≡ p + dataAt marked) (two : 2 ≤ k) (tail : IsTail (take k (drop d s)) t) where
+    here : drop d s ≡ D
+    here = ap (λ (n : ℕ). drop n s) place ∙ sym (drop-drop (dataAt marked) p s)
+
+    mark-length : (b : Bool) (l : List ℕ) → length (mark b f l) ≡ dataAt b
+    unfolding mark
+    mark-length true l = refl
+    mark-length false l = refl
+
+    parts : segment marked f (take k D) ≡ mark marked f D ++ (take k D ++ tailOf t)
+    parts = sym (marked-block marked f (take k D)) ∙ rw (same-mark k two marked, ← tail-symbols (take k D) t (subst (λ (l : List ℕ). IsTail (take k l) t) here tail))
+
+    -- marker and tail
+    pub segment-seen : starts (segment marked f (take k D)) (drop p s) ≡ (starts (mark marked f D) (drop p s) && starts (tailOf t) (drop (d + k) s))
+    segment-seen =
+        let behind : drop k D ≡ drop (d + k) s = ap (drop k) (sym here) ∙ drop-drop k d s in
+        rw (parts, starts-append (mark marked f D) (take k D ++ tailOf t) (drop p s), mark-length marked D, starts-behind k D (tailOf t), behind)
+
+-- a tail's width
+pub tail-room : (d k : ℕ) (s : List ℕ) (t : Tail) → 2 ≤ k → k ≤ 4096 → d + k ≤ length s → IsTail (take k (drop d s)) t → (0 < t .width) × (t .width ≤ 16)
+tail-room d k s t two most room tail =
+    let n : length (take k (drop d s)) ≡ k = length-take-le k (drop d s) (simp length-drop (omega arith)) in
+    let w : t .width ≡ width k = tail .width ∙ ap width n in
+    (omega (arith, width-two k two), omega (arith, width-least k .least 16 (omega arith)))
+
+-- another is to follow, or the strand ends
+pub may-follow : (next end n : ℕ) → (next ≡ 0 → ⊥) → true ≡ mayEnd next end n
+may-follow zero end n h = absurd (h refl)
+may-follow (suc next) end n h = refl
+
+pub may-last : (next end n : ℕ) → next ≡ 0 → eqb end n ≡ mayEnd next end n
+may-last next end n e = rw e
