@@ -1,20 +1,18 @@
-// The strand of a layout: its length, and its segments one behind the other, as letters.
+// The strand of a layout: its length, and its segments one behind the other, as symbols and as letters.
 ghost use mathlib.Core.Path.{_≡_};
 ghost use mathlib.Core.Bool.{false};
 ghost use mathlib.Core.List.{_++_};
 ghost use Prim.Native.Nat.{_*_, _<_, _≤_};
 ghost use lib.ListN.{length, drop, replicate};
-ghost use Rattle.code.specs.Symbols.{Below, letters};
 ghost use Rattle.code.specs.Layout.{sum, cut, strand, extent};
 ghost use Rattle.code.specs.Writing.{strandOf};
 ghost use Rattle.layout.specs.Lengths.{Lengths};
 
-// The strand of symbols cut by a list of lengths, as letters at the front of `out`.
-pub fn write_layout(lengths: &[usize], symbols: &[u8], out: &mut [u8])
+// The strand of symbols cut by a list of lengths, at the front of `out`; and its length.
+pub fn write_layout(lengths: &[usize], symbols: &[u8], out: &mut [u8]) -> usize
     requires { ⌜ Lengths (now lengths) ⌝ }
-    requires { ⌜ Below 4 (now symbols) ⌝ }
     requires { ⌜ (sum (now lengths) ≡ length (now symbols)) × (extent false (now lengths) ≤ length (now out)) ⌝ }
-    ensures { λ _. ⌜ now (out .exit) ≡ letters (strand (cut (now (lengths .entry)) (now (symbols .entry)))) ++ drop (extent false (now (lengths .entry))) (now (out .entry)) ⌝ }
+    ensures { λ r. ⌜ (r ≡ extent false (now (lengths .entry))) × (now (out .exit) ≡ strand (cut (now (lengths .entry)) (now (symbols .entry))) ++ drop (extent false (now (lengths .entry))) (now (out .entry))) ⌝ }
 {
     let mut i = 0;
     let mut from = 0;
@@ -24,12 +22,13 @@ pub fn write_layout(lengths: &[usize], symbols: &[u8], out: &mut [u8])
     while i < lengths.len() {
         let k = lengths[i];
         let to = from + k;
-        f = segment::write_segment(marked, f, &symbols[from..to], b"ATCG", out, at);
+        f = segment::write_segment(marked, f, &symbols[from..to], out, at);
         at += segment::size_of(marked, k);
         from = to;
         marked = true;
         i += 1;
     }
+    at
 }
 
 // The length of a strand of l segments of k message symbols.
@@ -40,7 +39,7 @@ pub fn extent_of(k: usize, l: usize) -> usize
     l * (k + layers::width_of(k) + 6) - 2
 }
 
-// The strand that carries bytes in l segments of k symbols, at the front of `out`.
+// The letters of the strand that carries bytes in l segments of k symbols, at the front of `out`.
 pub fn write_equal(k: usize, l: usize, message: &[u8], out: &mut [u8])
     requires { ⌜ (2 ≤ k) × (k ≤ 64) × (l ≤ 64) ⌝ }
     requires { ⌜ (length (now message) ≤ 128) × (l * k ≡ 4 * length (now message)) × (extent false (replicate l k) ≤ length (now out)) ⌝ }
@@ -50,5 +49,6 @@ pub fn write_equal(k: usize, l: usize, message: &[u8], out: &mut [u8])
     packing::unpack(message, &mut buffer);
     let n = 4 * message.len();
     let lengths = [k; 64];
-    write_layout(&lengths[..l], &buffer[..n], out);
+    let end = write_layout(&lengths[..l], &buffer[..n], out);
+    symbols::spell(&mut out[..end]);
 }
