@@ -89,12 +89,19 @@ pub fn without_last(symbols: &[u8], places: Layers) -> Layers
     }
 }
 
-// The syndrome of each layer, from the sums of places.
+// The syndrome of each layer, from the sums of places; by a mask where 2k is a power of two.
 pub fn syndromes(symbols: &[u8], places: Layers) -> Layers
     requires { ⌜ (0 < length (now symbols)) × (length (now symbols) < 65536) × (places ≡ both sumOfPlaces (now symbols)) ⌝ }
     ensures { λ r. ⌜ r ≡ both syndrome (now (symbols .entry)) ⌝ }
 {
-    let m = 2 * symbols.len();
+    let k = symbols.len();
+    let m = 2 * k;
+    if m == 1 << width_of(k) {
+        return Layers {
+            high: places.high & (m - 1),
+            low: places.low & (m - 1),
+        };
+    }
     Layers {
         high: places.high % m,
         low: places.low % m,

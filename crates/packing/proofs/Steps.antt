@@ -1,28 +1,28 @@
--- Shifts and masks of symbols, and one step of each loop.
---   or-byte        four symbols joined by shift and or
+-- The byte of four symbols, masks, and one step of each loop.
+--   product-byte   the byte of four symbols, by a product
 --   mask-two       the lowest two bits
 --   symbols-next   the symbols of one more byte
 --   pack-step      one more byte of symbols
-use mathlib.Core.Path.{_≡_, _∙_}
+use mathlib.Core.Path.{_≡_, ap, _∙_}
 use mathlib.Core.List.{List, _++_}
-use Prim.Native.Nat.{ℕ, _+_, _*_, _%_, _<_}
+use Prim.Native.Nat.{ℕ, _+_, _*_, _/_, _%_, _<_}
 use native.Mathlib.Omega.{arith}
-use lib.Bits.{bitAnd, bitOr, and-mask, or-shifted}
+use lib.Arith.{digits-div, digits-mod}
+use lib.Bits.{bitAnd, and-mask}
 use lib.ListN.{length, getD, take, drop, set}
 use lib.Seq.{drop-cons, take-add}
 use Rattle.code.specs.Lists.{write-next, drop-four}
 use Rattle.code.specs.Symbols.{symbolsOf, byteOf, symbols, bytes}
 use Rattle.code.specs.SymbolsLaws.{symbols-drop, bytes-drop}
 
--- four symbols joined by shift and or
-pub or-byte : (a b c d : ℕ) → a < 4 → b < 4 → c < 4 → d < 4 → bitOr (bitOr (bitOr ((a * 64) % 256) ((b * 16) % 256)) ((c * 4) % 256)) d ≡ byteOf a b c d
-or-byte a b c d ha hb hc hd =
-    let ea : (a * 64) % 256 ≡ a * 64 = omega arith in
-    let eb : (b * 16) % 256 ≡ b * 16 = omega arith in
-    let ec : (c * 4) % 256 ≡ c * 4 = omega arith in
-    let ab : bitOr (a * 64) (b * 16) ≡ (4 * a + b) * 16 = or-shifted a 6 (b * 16) (omega arith) ∙ omega arith in
-    let abc : bitOr ((4 * a + b) * 16) (c * 4) ≡ (16 * a + 4 * b + c) * 4 = or-shifted (4 * a + b) 4 (c * 4) (omega arith) ∙ omega arith in
-    rw (ea, eb, ec, ab, abc) (or-shifted (16 * a + 4 * b + c) 2 d (omega arith) ∙ omega arith)
+-- bits 24 to 31 of the product: behind them are shares of the first three symbols, before them those of the last three
+pub product-byte : (a b c d : ℕ) → a < 4 → b < 4 → c < 4 → d < 4 → (a + 256 * b + 65536 * c + 16777216 * d) * 1074791425 / 16777216 % 256 ≡ byteOf a b c d
+product-byte a b c d ha hb hc hd =
+    let above = 64 * b + 16400 * c + 4198404 * d in
+    let below = 1049601 * a + 262400 * b + 65536 * c in
+    let parts : (a + 256 * b + 65536 * c + 16777216 * d) * 1074791425 ≡ (above * 256 + byteOf a b c d) * 16777216 + below = omega arith in
+    let quotient : (a + 256 * b + 65536 * c + 16777216 * d) * 1074791425 / 16777216 ≡ above * 256 + byteOf a b c d = ap (λ (n : ℕ). n / 16777216) parts ∙ digits-div (above * 256 + byteOf a b c d) (omega arith) in
+    rw quotient (digits-mod above (omega arith))
 
 -- the lowest two bits, by a mask
 pub mask-two : (n : ℕ) → bitAnd n 3 ≡ n % 4

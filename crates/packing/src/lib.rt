@@ -5,12 +5,13 @@ ghost use Prim.Native.Nat.{_*_, _/_, _<_, _≤_};
 ghost use lib.ListN.{length, drop};
 ghost use Rattle.code.specs.Symbols.{Below, byteOf, symbols, bytes};
 
-// The byte of four symbols, the first in its highest two bits.
+// The byte of four symbols, the first in its highest two bits: of the product of the word that they stand in, bits 24 to 31.
 pub fn pack4(a: u8, b: u8, c: u8, d: u8) -> u8
     requires { ⌜ (a < 4) × (b < 4) × (c < 4) × (d < 4) ⌝ }
     ensures { λ r. ⌜ r ≡ byteOf a b c d ⌝ }
 {
-    (a << 6) | (b << 4) | (c << 2) | d
+    let word = a as u64 + 256 * (b as u64) + 65536 * (c as u64) + 16777216 * (d as u64);
+    (word * 1074791425 / 16777216 % 256) as u8
 }
 
 // The symbols of bytes, four to a byte, at the front of `out`.

@@ -1,19 +1,36 @@
 -- Sums of symbols and bits of numbers, by one step.
+--   either-digit, sep-sum   Sep as a sum
 --   total-step, total-end   the sum of symbols from a place on
 --   bits-last               the last of the symbols of two numbers
 --   bits-at                 their symbol at a place
 use mathlib.Core.Path.{_≡_, refl, sym, ap, _∙_}
+use mathlib.Core.Bool.{Bool, true, false, cond, _||_}
 use mathlib.Core.List.{List, [], _∷_, _++_}
 use Prim.Native.Nat.{ℕ, zero, suc, _+_, _-_, _*_, _/_, _%_, _^_, _<_, _≤_}
 use native.Mathlib.Numerals.{add-one}
 use native.Mathlib.Omega.{arith}
-use lib.Bits.{bitAnd, and-mask}
+use lib.Bits.{bitAnd, bitOr, and-mask}
 use lib.Pow.{shr-shr}
 use lib.ListN.{length, getD, drop, drop-of-length-le}
+use mir.Val.{boolByte}
 use lib.Seq.{drop-cons}
 use Rattle.code.specs.Layers.{bit, digit, pair, bits}
 use Rattle.code.specs.LayersLaws.{digit-bit}
 use Rattle.code.specs.Segment.{total}
+
+-- either of two tests, as a number
+pub either-digit : (p q : Bool) → (bitOr (boolByte p) (boolByte q) ≡ digit (p || q)) × (bitOr (boolByte p) (boolByte q) < 2)
+either-digit true true = (refl, omega arith)
+either-digit true false = (refl, omega arith)
+either-digit false true = (refl, omega arith)
+either-digit false false = (refl, omega arith)
+
+-- the number that Sep adds to a, by whether a + 2 and a + 3 are taken
+pub sep-sum : (a : ℕ) (p q : Bool) → a < 4 → ((a + 2) % 4 + digit p + 2 * bitAnd (digit p) (digit q)) % 4 ≡ cond p (cond q ((a + 1) % 4) ((a + 3) % 4)) ((a + 2) % 4)
+sep-sum a true true h = omega arith
+sep-sum a true false h = omega arith
+sep-sum a false true h = omega arith
+sep-sum a false false h = omega arith
 
 -- the sum of symbols from place i on
 pub total-step : (m : List ℕ) (i : ℕ) → i < length m → total (drop i m) ≡ getD m i 0 + total (drop (i + 1) m)

@@ -17,30 +17,23 @@ pub struct Tail {
     pub low: usize,
 }
 
-// Whether x is b or c.
-fn is_either(x: u8, b: u8, c: u8) -> bool
-    ensures { λ r. ⌜ r ≡ either x b c ⌝ }
+// 1 where x is b or c, and 0 elsewhere.
+fn is_either(x: u8, b: u8, c: u8) -> u8
+    ensures { λ r. ⌜ (r ≡ digit (either x b c)) × (r < 2) ⌝ }
 {
-    if x == b {
-        return true;
-    }
-    x == c
+    ((x == b) as u8) | ((x == c) as u8)
 }
 
-// The separator function Sep.
+// The separator function Sep, formed without a branch: one more than a + 2 where that is taken, and two more where a + 3 is taken as well.
 pub fn sep_of(a: u8, b: u8, c: u8) -> u8
     requires { ⌜ a < 4 ⌝ }
     ensures { λ r. ⌜ r ≡ sep a b c ⌝ }
 {
     let two = (a + 2) % 4;
-    if !is_either(two, b, c) {
-        return two;
-    }
     let three = (a + 3) % 4;
-    if !is_either(three, b, c) {
-        return three;
-    }
-    (a + 1) % 4
+    let taken = is_either(two, b, c);
+    let both = taken & is_either(three, b, c);
+    (two + taken + 2 * both) % 4
 }
 
 // The check of a message: the sum of its symbols modulo 4.
