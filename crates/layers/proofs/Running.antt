@@ -2,8 +2,8 @@
 use mathlib.Core.Path.{_≡_, sym, ap, _∙_}
 use mathlib.Core.Bool.{false}
 use mathlib.Core.List.{List, _∷_}
-use Prim.Native.Nat.{ℕ, suc, _+_, _*_, _%_, _^_, _≤_, _<_}
-use native.Mathlib.Nat.{pow-succ'}
+use Prim.Native.Nat.{ℕ, zero, suc, _+_, _*_, _%_, _^_, _≤_, _<_}
+use native.Mathlib.Nat.{pow-succ', zero-mul, one-mul}
 use native.Mathlib.Omega.{arith}
 use lib.Pow.{pow-mono}
 use lib.ListN.{length, getD, drop, length-drop, drop-of-length-le}
@@ -100,3 +100,8 @@ module _ (s : ℕ) (m : List ℕ) where
 
   pub written-end : (i w v : ℕ) → i ≡ 0 → Written s m i w v → v ≡ number (layer s m)
   written-end i w v e r = r .written ∙ rw e
+
+pub product-le : (b n : ℕ) → b < 2 → b * n ≤ n
+product-le zero n h = omega (arith, zero-mul n)
+product-le (suc zero) n h = omega (arith, one-mul n)
+product-le (suc (suc b)) n h = absurd (omega arith)

@@ -3,10 +3,9 @@
 --   sumsOf   the check and the sums of places of some symbols
 --   highs    the high numbers of equal pairs
 --   lows     their low numbers
---   ahead    the least number that leads from one remainder to another
 use mathlib.Core.Path.{_≡_, ap}
 use mathlib.Core.List.{List}
-use Prim.Native.Nat.{ℕ, _+_, _-_, _%_}
+use Prim.Native.Nat.{ℕ}
 use Rattle.code.specs.Layers.{Word, layer, sumOfPlaces}
 use Rattle.code.specs.Segment.{check}
 use Rattle.layers.specs.declared.Layers.{Layers}
@@ -26,7 +25,3 @@ lows e = ap (λ (l : Layers). l .low) e
 -- the check of m, and the sum of places of each layer
 abbrev pub sumsOf : List ℕ → Summed
 sumsOf m = record { check = check m; places = both sumOfPlaces m }
-
--- the least number that leads from a to b modulo m
-abbrev pub ahead : ℕ → ℕ → ℕ → ℕ
-ahead a b m = (b % m + (m - a % m)) % m

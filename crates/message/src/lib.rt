@@ -4,8 +4,10 @@ use code::Repair;
 use compare::offsets::moved_by;
 use compare::tests::is_at;
 use compare::tests::three_equal;
-use layers::Fix;
 use layers::Layers;
+use mending::Fix;
+use mending::mend;
+use mending::mended_pair;
 use standing::syndrome_at;
 use tail::Tail;
 ghost use mathlib.Core.Path.{_≡_};
@@ -134,13 +136,13 @@ fn mend_both(link: Link, received: &[u8], sums: Layers, written: &[u8], out: &mu
     ensures { λ r. ⌜ IsGot (bothLayers (repair link (number (layer 1 (now (written .entry)))) (layer 1 (now (received .entry)))) (repair link (number (layer 0 (now (written .entry)))) (layer 0 (now (received .entry))))) (now (out .exit)) r ⌝ }
 {
     let numbers = layers::numbers(written);
-    let Repair::At(high, high_bit) = layers::mend(link, received, 1, sums.high, numbers.high) else {
+    let Repair::At(high, high_bit) = mend(link, received, 1, sums.high, numbers.high) else {
         return lost_in(7);
     };
-    let Repair::At(low, low_bit) = layers::mend(link, received, 0, sums.low, numbers.low) else {
+    let Repair::At(low, low_bit) = mend(link, received, 0, sums.low, numbers.low) else {
         return lost_in(7);
     };
-    layers::mended_pair(
+    mended_pair(
         link,
         received,
         Fix {

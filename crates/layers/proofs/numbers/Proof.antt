@@ -3,8 +3,7 @@ use Prim.Native.Nat.{suc, _-_, _≤_}
 use native.Mathlib.Omega.{arith}
 use borrow.Author.Needs.{needs}
 use lib.ListN.{length}
-use Rattle.layers.proofs.Running.{Written, written-begin, written-turn, written-few, written-end}
-use Rattle.layers.proofs.Tried.{product-le}
+use Rattle.layers.proofs.Running.{Written, written-begin, written-turn, written-few, written-end, product-le}
 use Rattle.layers.proofs.numbers.Statement.{statement}
 use Rattle.layers.proofs.numbers.Tie as tie
 

@@ -1,7 +1,7 @@
 use native.Mathlib.Omega.{arith}
 use borrow.Author.Needs.{needs}
-use Rattle.layers.proofs.mended_digit.Statement.{statement}
-use Rattle.layers.proofs.mended_digit.Tie as tie
+use Rattle.mending.proofs.mended_digit.Statement.{statement}
+use Rattle.mending.proofs.mended_digit.Tie as tie
 
 pub mended-digit-spec : {M : Type 1} → statement M
 mended-digit-spec =

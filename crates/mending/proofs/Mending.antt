@@ -15,8 +15,8 @@ use Rattle.code.specs.LinksLaws.{without-length, change-length, raised-sum, low
 use Rattle.code.specs.Repair.{repair, mended, putIn, leaveOut}
 use Rattle.code.specs.RepairLaws.{repair-is, repair-nothing}
 use Rattle.code.specs.Places.{put-without, put-sum, put-place, left-without, left-sum, left-place, set-change, change-set}
-use Rattle.layers.proofs.Ahead.{Ahead, ahead-is, ahead-only, mod-cancel}
-use Rattle.layers.specs.Answers.{ahead}
+use Rattle.mending.proofs.Ahead.{Ahead, ahead-is, ahead-only, mod-cancel}
+use Rattle.mending.specs.Answers.{ahead}
 
 -- the syndrome of a word of k bits whose sum of places is x
 module _ (k v x : ℕ) (w : Word) (size : length w ≡ k) (small : v < 2 * k) (sum : sumOfPlaces w ≡ x) where

@@ -35,11 +35,6 @@ ones-few s m i o e = omega (arith, ones-le (drop i (layer s m)), length-drop i (
 pub digit-times : (b : Bool) (n : ℕ) → digit b * n ≡ cond b n 0
 digit-times true n = one-mul n
 digit-times false n = zero-mul n
-
-pub product-le : (b n : ℕ) → b < 2 → b * n ≤ n
-product-le zero n h = omega (arith, zero-mul n)
-product-le (suc zero) n h = omega (arith, one-mul n)
-product-le (suc (suc b)) n h = absurd (omega arith)
 
 -- no bit left out at place i or behind takes d from the sum; o ones stand from i on
 pub record MoreTried (r : Word) (d i o : ℕ) : Type 0 where

@@ -7,9 +7,9 @@ use lib.ListN.{length, take, length-set}
 use lib.Seq.{take-all, take-suc-set}
 use Rattle.code.specs.Layers.{layer, pair}
 use Rattle.code.specs.Repair.{mendedWord}
-use Rattle.layers.proofs.Digits.{pair-more}
-use Rattle.layers.proofs.mended_pair.Statement.{statement}
-use Rattle.layers.proofs.mended_pair.Tie as tie
+use Rattle.mending.proofs.Digits.{pair-more}
+use Rattle.mending.proofs.mended_pair.Statement.{statement}
+use Rattle.mending.proofs.mended_pair.Tie as tie
 
 -- the first i symbols are those of the first i bits
 abbrev Inv-loop : tie.InvT-loop

@@ -9,11 +9,11 @@ use Rattle.code.specs.LayersLaws.{length-layer}
 use Rattle.code.specs.Repair.{mended}
 use Rattle.code.specs.RepairLaws.{repair-overlarge}
 use Rattle.code.specs.declared.Link.the-variants.{Changed}
-use Rattle.layers.proofs.Ahead.{ahead-below}
-use Rattle.layers.proofs.Tried.{reads-zero, reads-one}
-use Rattle.layers.proofs.Mending.{changed-same, changed-raised, changed-lowered, changed-none}
-use Rattle.layers.proofs.mend_changed.Statement.{statement}
-use Rattle.layers.proofs.mend_changed.Tie as tie
+use Rattle.mending.proofs.Ahead.{ahead-below}
+use Rattle.mending.proofs.Tried.{reads-zero, reads-one}
+use Rattle.mending.proofs.Mending.{changed-same, changed-raised, changed-lowered, changed-none}
+use Rattle.mending.proofs.mend_changed.Statement.{statement}
+use Rattle.mending.proofs.mend_changed.Tie as tie
 
 at-most-one : (n : ℕ) → n < 2 → (n ≡ 1 → ⊥) → n ≡ 0
 at-most-one zero h ne = refl

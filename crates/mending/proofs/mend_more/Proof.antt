@@ -8,10 +8,11 @@ use Rattle.code.specs.LayersLaws.{length-layer}
 use Rattle.code.specs.Repair.{mended}
 use Rattle.code.specs.RepairLaws.{repair-overlarge}
 use Rattle.code.specs.declared.Link.the-variants.{More}
-use Rattle.layers.proofs.Tried.{MoreTried, more-begin, more-turn, more-loss, ones-few, product-le}
-use Rattle.layers.proofs.Mending.{more-found, more-none}
-use Rattle.layers.proofs.mend_more.Statement.{statement}
-use Rattle.layers.proofs.mend_more.Tie as tie
+use Rattle.layers.proofs.Running.{product-le}
+use Rattle.mending.proofs.Tried.{MoreTried, more-begin, more-turn, more-loss, ones-few}
+use Rattle.mending.proofs.Mending.{more-found, more-none}
+use Rattle.mending.proofs.mend_more.Statement.{statement}
+use Rattle.mending.proofs.mend_more.Tie as tie
 
 -- no place from i on will do
 abbrev Inv-loop : tie.InvT-loop

@@ -6,9 +6,9 @@ use lib.ListN.{getD, set}
 use lib.Seq.{getD-set-same, getD-set-other}
 use Rattle.code.specs.Layers.{bit, layer}
 use Rattle.code.specs.LayersLaws.{length-layer, layer-at}
-use Rattle.layers.proofs.Digits.{digit-is, byte-is}
-use Rattle.layers.proofs.changed_digit.Statement.{statement}
-use Rattle.layers.proofs.changed_digit.Tie as tie
+use Rattle.mending.proofs.Digits.{digit-is, byte-is}
+use Rattle.mending.proofs.changed_digit.Statement.{statement}
+use Rattle.mending.proofs.changed_digit.Tie as tie
 
 pub changed-digit-spec : {M : Type 1} → statement M
 changed-digit-spec =

@@ -8,9 +8,9 @@ use lib.ListN.{getD}
 use Rattle.code.specs.Repair.{leaveOut}
 use Rattle.code.specs.Layers.{bit, layer}
 use Rattle.code.specs.LayersLaws.{length-layer, layer-at}
-use Rattle.layers.proofs.Digits.{digit-is, leave-before, leave-behind}
-use Rattle.layers.proofs.more_digit.Statement.{statement}
-use Rattle.layers.proofs.more_digit.Tie as tie
+use Rattle.mending.proofs.Digits.{digit-is, leave-before, leave-behind}
+use Rattle.mending.proofs.more_digit.Statement.{statement}
+use Rattle.mending.proofs.more_digit.Tie as tie
 
 pub more-digit-spec : {M : Type 1} → statement M
 more-digit-spec =

@@ -8,10 +8,10 @@ use Rattle.code.specs.LayersLaws.{length-layer}
 use Rattle.code.specs.Repair.{mended}
 use Rattle.code.specs.RepairLaws.{repair-overlarge}
 use Rattle.code.specs.declared.Link.the-variants.{Less}
-use Rattle.layers.proofs.Tried.{LessTried, less-begin, less-turn, less-from, ones-few}
-use Rattle.layers.proofs.Mending.{less-found, less-none}
-use Rattle.layers.proofs.mend_less.Statement.{statement}
-use Rattle.layers.proofs.mend_less.Tie as tie
+use Rattle.mending.proofs.Tried.{LessTried, less-begin, less-turn, less-from, ones-few}
+use Rattle.mending.proofs.Mending.{less-found, less-none}
+use Rattle.mending.proofs.mend_less.Statement.{statement}
+use Rattle.mending.proofs.mend_less.Tie as tie
 
 -- no place behind i will do
 abbrev Inv-loop : tie.InvT-loop

@@ -1,8 +1,8 @@
 use mathlib.Core.Path.{refl}
 use native.Mathlib.Nat.{mod-lt}
 use native.Mathlib.Omega.{arith}
-use Rattle.layers.proofs.ahead_of.Statement.{statement}
-use Rattle.layers.proofs.ahead_of.Tie as tie
+use Rattle.mending.proofs.ahead_of.Statement.{statement}
+use Rattle.mending.proofs.ahead_of.Tie as tie
 
 pub ahead-of-spec : {M : Type 1} → statement M
 ahead-of-spec =

@@ -7,9 +7,9 @@ use lib.ListN.{getD}
 use Rattle.code.specs.Repair.{putIn}
 use Rattle.code.specs.Layers.{bit, layer}
 use Rattle.code.specs.LayersLaws.{length-layer, layer-at}
-use Rattle.layers.proofs.Digits.{digit-is, byte-is, put-before, put-here, put-behind}
-use Rattle.layers.proofs.less_digit.Statement.{statement}
-use Rattle.layers.proofs.less_digit.Tie as tie
+use Rattle.mending.proofs.Digits.{digit-is, byte-is, put-before, put-here, put-behind}
+use Rattle.mending.proofs.less_digit.Statement.{statement}
+use Rattle.mending.proofs.less_digit.Tie as tie
 
 pub less-digit-spec : {M : Type 1} → statement M
 less-digit-spec =

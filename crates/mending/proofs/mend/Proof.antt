@@ -1,7 +1,7 @@
 use native.Mathlib.Omega.{arith}
 use borrow.Author.Needs.{needs}
-use Rattle.layers.proofs.mend.Statement.{statement}
-use Rattle.layers.proofs.mend.Tie as tie
+use Rattle.mending.proofs.mend.Statement.{statement}
+use Rattle.mending.proofs.mend.Tie as tie
 
 pub mend-spec : {M : Type 1} → statement M
 mend-spec =

@@ -4,7 +4,7 @@ use Prim.Native.Nat.{ℕ, _+_, _-_, _%_, _<_}
 use native.Mathlib.Nat.{mod-lt, mod-add-mod, add-mod-mod, mod-mod, add-mod-right}
 use native.Mathlib.Omega.{arith}
 use Rattle.code.specs.Levenshtein.{near}
-use Rattle.layers.specs.Answers.{ahead}
+use Rattle.mending.specs.Answers.{ahead}
 
 -- d is below m and leads from a to b modulo m
 pub record Ahead (a b m d : ℕ) : Type 0 where

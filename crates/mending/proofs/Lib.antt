@@ -1,0 +1,4 @@
+pub mod Ahead
+pub mod Digits
+pub mod Mending
+pub mod Tried
