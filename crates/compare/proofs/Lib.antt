@@ -1,5 +1,2 @@
 pub mod Standing
 pub mod Moving
-pub mod Leaving
-pub mod Sharing
-pub mod Judging

@@ -1,4 +1,3 @@
-// What reading compares: tests at a place, offsets of a place, and the judgement of a piece.
-pub mod judge;
+// What reading compares: tests at a place, and offsets of a place.
 pub mod offsets;
 pub mod tests;

@@ -14,9 +14,9 @@ use Rattle.code.specs.SegmentLaws.{length-segment}
 use Rattle.code.specs.Edits.{judged}
 use Rattle.code.specs.Reading.{withEdit}
 use Rattle.code.specs.declared.Edit.{Edit}
-use Rattle.compare.specs.declared.judge.Judged.{Judged}
-use Rattle.compare.specs.declared.judge.Judged.the-variants.{Is, Many}
-use Rattle.compare.specs.Judgement.{judgedAs}
+use Rattle.judging.specs.declared.Judged.{Judged}
+use Rattle.judging.specs.declared.Judged.the-variants.{Is, Many}
+use Rattle.judging.specs.Judgement.{judgedAs}
 use Rattle.one_segment.specs.declared.One.the-variants.{Read, Lost}
 use Rattle.one_segment.specs.Ones.{oneAs}
 

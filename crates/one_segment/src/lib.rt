@@ -1,10 +1,10 @@
 // Step 9, and with it the reading of one segment.
 use code::Edit;
-use compare::judge::Judged;
-use compare::judge::judge;
 use compare::tests::two_equal;
 use ending::data_at;
 use ending::end_of;
+use judging::Judged;
+use judging::judge;
 use message::Got;
 use message::copy;
 use message::find_separator;

@@ -1,10 +1,10 @@
 use mathlib.Core.Path.{_≡_, refl, sym, _∙_}
 use Prim.Native.Nat.{_≤_}
 use native.Mathlib.Omega.{arith}
-use Rattle.compare.specs.Judgement.{runStart}
-use Rattle.compare.proofs.Sharing.{run-turn, run-stop, run-end}
-use Rattle.compare.proofs.judge.run_start.Statement.{statement}
-use Rattle.compare.proofs.judge.run_start.Tie as tie
+use Rattle.judging.specs.Judgement.{runStart}
+use Rattle.judging.proofs.Sharing.{run-turn, run-stop, run-end}
+use Rattle.judging.proofs.run_start.Statement.{statement}
+use Rattle.judging.proofs.run_start.Tie as tie
 
 -- the letters from p to i are x
 abbrev Inv-loop : tie.InvT-loop

@@ -1,10 +1,10 @@
 use mathlib.Core.Path.{sym, ap, _∙_}
 use native.Mathlib.Omega.{arith}
-use Rattle.compare.specs.Judgement.{judgedAs}
-use Rattle.compare.proofs.Sharing.{shared, common-sym}
-use Rattle.compare.proofs.Judging.{far-many}
-use Rattle.compare.proofs.judge.judge_piece.Statement.{statement}
-use Rattle.compare.proofs.judge.judge_piece.Tie as tie
+use Rattle.judging.specs.Judgement.{judgedAs}
+use Rattle.judging.proofs.Sharing.{shared, common-sym}
+use Rattle.judging.proofs.Judging.{far-many}
+use Rattle.judging.proofs.judge_piece.Statement.{statement}
+use Rattle.judging.proofs.judge_piece.Tie as tie
 
 pub judge-piece-spec : {M : Type 1} → statement M
 judge-piece-spec =

@@ -16,10 +16,10 @@ use Rattle.code.specs.Edits.{judged}
 use Rattle.code.specs.JudgedLaws.{Misses, judged-same, judged-missed, judged-sub, judged-del, judged-ins}
 use Rattle.code.specs.Reading.{starts}
 use Rattle.code.specs.declared.Edit.the-variants.{None, Sub, Del, Ins}
-use Rattle.compare.specs.Judgement.{common, runStart}
-use Rattle.compare.proofs.Leaving.{leave-low, leave-high, leave-put, put-leave, leave-past, leave-le, leave-ge}
+use Rattle.judging.specs.Judgement.{common, runStart}
+use Rattle.judging.proofs.Leaving.{leave-low, leave-high, leave-put, put-leave, leave-past, leave-le, leave-ge}
 use Rattle.compare.proofs.Standing.{starts-equal, starts-whole}
-use Rattle.compare.proofs.Sharing.{shared, shared-at, common-self, set-rest, leave-rest, Run, run}
+use Rattle.judging.proofs.Sharing.{shared, shared-at, common-self, set-rest, leave-rest, Run, run}
 
 -- Which edits the lengths rule out
 

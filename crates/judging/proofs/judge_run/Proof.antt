@@ -1,10 +1,10 @@
 use mathlib.Core.Path.{sym, ap, _∙_}
 use borrow.Author.Needs.{needs}
 use borrow.Author.Tests.{not-true, not-false}
-use Rattle.compare.specs.Judgement.{judgedAs}
-use Rattle.compare.proofs.Judging.{one-many, one-less, one-more}
-use Rattle.compare.proofs.judge.judge_run.Statement.{statement}
-use Rattle.compare.proofs.judge.judge_run.Tie as tie
+use Rattle.judging.specs.Judgement.{judgedAs}
+use Rattle.judging.proofs.Judging.{one-many, one-less, one-more}
+use Rattle.judging.proofs.judge_run.Statement.{statement}
+use Rattle.judging.proofs.judge_run.Tie as tie
 
 returns : tie.Need-returns
 returns c =

@@ -1,12 +1,12 @@
 // Step 9: a piece against the segment written anew.
-use crate::tests::stands_at;
 use code::Edit;
+use compare::tests::stands_at;
 ghost use mathlib.Core.Path.{_≡_};
 ghost use mathlib.Core.Bool.{cond};
 ghost use Prim.Native.Nat.{_+_, _-_, _<_, _≤_};
 ghost use lib.ListN.{length, take, drop, getD};
 ghost use Rattle.code.specs.Edits.{judged};
-ghost use Rattle.compare.specs.Judgement.{common, runStart, judgedAs};
+ghost use Rattle.judging.specs.Judgement.{common, runStart, judgedAs};
 
 // The edit that turns the segment into the piece, or that one edit is not enough.
 pub enum Judged {

@@ -2,10 +2,10 @@ use mathlib.Core.Path.{sym, ap, _∙_}
 use native.Mathlib.Omega.{arith}
 use borrow.Author.Needs.{needs}
 use lib.ListN.{length-take, length-drop}
-use Rattle.compare.specs.Judgement.{judgedAs}
-use Rattle.compare.proofs.Judging.{changed-none, changed-sub, changed-many}
-use Rattle.compare.proofs.judge.judge_changed.Statement.{statement}
-use Rattle.compare.proofs.judge.judge_changed.Tie as tie
+use Rattle.judging.specs.Judgement.{judgedAs}
+use Rattle.judging.proofs.Judging.{changed-none, changed-sub, changed-many}
+use Rattle.judging.proofs.judge_changed.Statement.{statement}
+use Rattle.judging.proofs.judge_changed.Tie as tie
 
 pub judge-changed-spec : {M : Type 1} → statement M
 judge-changed-spec =

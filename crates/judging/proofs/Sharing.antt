@@ -10,8 +10,8 @@ use lib.Dec.{eqb}
 use lib.ListN.{length, getD, take, drop, set, drop-of-length-le}
 use lib.Seq.{drop-cons, getD-take}
 use Rattle.code.specs.Repair.{leaveOut}
-use Rattle.compare.specs.Judgement.{common, runStart}
-use Rattle.compare.proofs.Leaving.{leave-next}
+use Rattle.judging.specs.Judgement.{common, runStart}
+use Rattle.judging.proofs.Leaving.{leave-next}
 
 -- The front that two lists share
 

@@ -2,10 +2,10 @@ use mathlib.Core.Path.{_≡_}
 use Prim.Native.Nat.{_+_, _-_, _≤_}
 use native.Mathlib.Omega.{arith}
 use lib.ListN.{length, drop}
-use Rattle.compare.specs.Judgement.{common}
-use Rattle.compare.proofs.Sharing.{common-turn, common-stop, common-past, common-past′}
-use Rattle.compare.proofs.judge.first_difference.Statement.{statement}
-use Rattle.compare.proofs.judge.first_difference.Tie as tie
+use Rattle.judging.specs.Judgement.{common}
+use Rattle.judging.proofs.Sharing.{common-turn, common-stop, common-past, common-past′}
+use Rattle.judging.proofs.first_difference.Statement.{statement}
+use Rattle.judging.proofs.first_difference.Tie as tie
 
 -- the letters before i are shared, and the rest is still to be compared
 abbrev Inv-loop : tie.InvT-loop

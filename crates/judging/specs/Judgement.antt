@@ -9,8 +9,8 @@ use Prim.Native.Nat.{ℕ, zero, suc}
 use lib.Dec.{eqb}
 use lib.ListN.{getD}
 use Rattle.code.specs.declared.Edit.{Edit}
-use Rattle.compare.specs.declared.judge.Judged.{Judged}
-use Rattle.compare.specs.declared.judge.Judged.the-variants.{Is, Many}
+use Rattle.judging.specs.declared.Judged.{Judged}
+use Rattle.judging.specs.declared.Judged.the-variants.{Is, Many}
 
 -- how many letters two lists share at the front
 unfoldable pub common : List ℕ → List ℕ → ℕ

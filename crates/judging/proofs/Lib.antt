@@ -1,0 +1,3 @@
+pub mod Leaving
+pub mod Sharing
+pub mod Judging
