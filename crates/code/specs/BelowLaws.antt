@@ -2,8 +2,7 @@
 use mathlib.Core.List.{List, [], _∷_, _++_}
 use Prim.Native.Nat.{ℕ, zero, suc, _<_}
 use native.Mathlib.Omega.{arith}
-use lib.ListN.{getD, take, drop, replicate}
-use lib.Seq.{getD-drop}
+use lib.ListN.{take, drop}
 use Rattle.code.specs.Symbols.{Below}
 
 module _ {n : ℕ} where

@@ -1,24 +1,21 @@
 -- A segment whose edit lies in its message or check: the separator is found, the message is read, and the syndrome is seen.
-use mathlib.Core.Path.{_≡_, refl, sym, ap, subst, _∙_}
-use mathlib.Core.Bool.{Bool, true, false, cond, _&&_, _||_, true≢false}
+use mathlib.Core.Path.{_≡_, refl, sym, ap, _∙_}
+use mathlib.Core.Bool.{Bool, true, false, _&&_, _||_, true≢false}
 use mathlib.Core.List.{List, [], _∷_, _++_, append-nil}
-use mathlib.Core.Logic.{⊎-elim}
-use mathlib.Core.Option.{Option, some, none}
+use mathlib.Core.Option.{some}
 use Prim.Native.Nat.{ℕ, zero, suc, _+_, _-_, _≤_, _<_}
-use native.Mathlib.Nat.{eq-or-lt-of-le}
 use native.Mathlib.Omega.{arith}
 use borrow.Author.Tests.{eqb-true}
 use lib.Dec.{eqb}
 use lib.ListN.{length, getD, take, drop, set, length-append, length-set, length-take, length-drop}
-use lib.Seq.{take-at, drop-at, take-append-le, take-append-add, append-snoc, drop-cons, drop-length, length-take-le, set-getD}
+use lib.Seq.{take-at, drop-at, take-append-le, append-snoc, drop-length, length-take-le, set-getD}
 use Rattle.code.specs.Symbols.{Below}
 use Rattle.code.specs.BelowLaws.{below-cons, below-take, below-drop, below-append}
-use Rattle.code.specs.Layers.{width}
 use Rattle.code.specs.Repair.{putIn, leaveOut}
 use Rattle.code.specs.Segment.{check, syndromeOf, separator}
 use Rattle.code.specs.SegmentLaws.{check-below, length-syndrome, width-two, separator-apart}
-use Rattle.code.specs.Reading.{starts, Shift, level, early, late, moved, separatorAt, afterSeparator, checkAgrees, syndromeAgrees, linkOf, taken, repaired, messageAt, Got, message}
-use Rattle.code.specs.ReadingLaws.{drop-off, starts-self, starts-is, find-level, find-early, find-late}
+use Rattle.code.specs.Reading.{starts, Shift, level, early, late, moved, separatorAt, afterSeparator, checkAgrees, syndromeAgrees, linkOf, taken, messageAt, message}
+use Rattle.code.specs.ReadingLaws.{drop-off, starts-is, find-level, find-early, find-late}
 use Rattle.code.specs.declared.Link.the-variants.{More, Less}
 use Rattle.code.specs.MessageLaws.{Both, both-same, both-set, both-leave, both-put, repaired-is, syndrome-tells, check-tells}
 

@@ -1,18 +1,17 @@
 -- A segment under an edit in its separator or syndrome is read, and its end is found.
 use mathlib.Core.Path.{_≡_, refl, sym, ap, subst, _∙_}
-use mathlib.Core.Bool.{Bool, true, false, cond, _&&_, true≢false, false≢true}
+use mathlib.Core.Bool.{Bool, true, false, true≢false, false≢true}
 use mathlib.Core.List.{List, [], _∷_, _++_, append-assoc, cons≢nil}
 use mathlib.Core.Logic.{_⊎_, inl, inr, ⊎-elim}
-use mathlib.Core.Option.{Option, some, none}
+use mathlib.Core.Option.{some, none}
 use Prim.Native.Nat.{ℕ, zero, suc, _+_, _-_, _≤_, _<_}
 use native.Mathlib.Decide.{ℕ-discrete}
 use native.Mathlib.Nat.{eq-or-lt-of-le}
 use native.Mathlib.Omega.{arith}
 use borrow.Author.Tests.{eqb-true}
 use lib.Dec.{eqb}
-use lib.ListN.{length, getD, take, drop, set, length-append, length-set, length-take}
-use lib.Seq.{getD-append-seam, take-at, drop-at, append-snoc, split-at, drop-length, length-take-le, take-length}
-use Rattle.code.specs.Symbols.{Below}
+use lib.ListN.{length, getD, take, drop, set, length-append, length-set}
+use lib.Seq.{getD-append-seam, take-at, append-snoc, split-at, drop-length, length-take-le, take-length}
 use Rattle.code.specs.Layers.{width}
 use Rattle.code.specs.Repair.{putIn, leaveOut}
 use Rattle.code.specs.Segment.{check, syndromeOf, separator, marker, segment, lastOf, size}
@@ -21,7 +20,7 @@ use Rattle.code.specs.Edits.{applied, Fits}
 use Rattle.code.specs.EditsLaws.{both, applied-left}
 use Rattle.code.specs.declared.Edit.{Edit}
 use Rattle.code.specs.declared.Edit.the-variants.{None, Sub, Del, Ins}
-use Rattle.code.specs.Reading.{starts, threeEqual, Shift, level, early, late, moved, dataAt, separatorAt, afterSeparator, syndromeAgrees, messageAt, gotWhole, Got, message, settled, behind}
+use Rattle.code.specs.Reading.{starts, threeEqual, level, late, dataAt, separatorAt, syndromeAgrees, messageAt, gotWhole, message, behind}
 use Rattle.code.specs.ReadingLaws.{drop-off, starts-self, three-no, three-no′, find-level, find-late}
 use Rattle.code.specs.BlockLaws.{Settles, heads, length-leave, length-put, below-put}
 use Rattle.code.specs.TailLaws.{gives-level, gives-none, none-found, is-false}

@@ -4,7 +4,7 @@
 --   numberOf4     the number that four bytes write
 --   labelTest     the tests of a label that is written, 1, 2, 3 and 5
 --   orderOf       what a label that is read answers, by the tests 5, 8, 1, 2 and 3
-use mathlib.Core.Bool.{Bool, false, not, _||_}
+use mathlib.Core.Bool.{false, not, _||_}
 use mathlib.Core.List.{List, [], _∷_}
 use Prim.Native.Nat.{ℕ, _+_, _*_, _/_, _%_, _^_}
 use lib.Dec.{eqb, ltb}

@@ -1,12 +1,12 @@
 -- Laws of layouts and written strands, in the order of the definitions.
-use mathlib.Core.Path.{_≡_, refl, sym, ap, _∙_}
+use mathlib.Core.Path.{_≡_, refl, ap, _∙_}
 use mathlib.Core.Bool.{Bool, true, false}
-use mathlib.Core.List.{List, [], _∷_, _++_, map, append-nil}
-use Prim.Native.Nat.{ℕ, zero, suc, _+_, _-_, _*_, _/_, _%_, _≤_, _<_}
+use mathlib.Core.List.{List, [], _∷_, map}
+use Prim.Native.Nat.{ℕ, zero, suc, _+_, _-_, _*_, _/_, _%_, _<_}
 use native.Mathlib.Nat.{zero-mul, suc-mul, div-add-mod, mul-comm}
 use native.Mathlib.Omega.{arith}
-use lib.ListN.{length, take, drop, replicate, length-append, length-take, length-drop, take-append-drop, length-replicate}
-use lib.Seq.{take-at, drop-at, length-take-le, take-all, take-length}
+use lib.ListN.{length, drop, replicate, length-append, length-drop, take-append-drop}
+use lib.Seq.{take-at, drop-at, length-take-le}
 use Rattle.code.specs.Symbols.{Below}
 use Rattle.code.specs.BelowLaws.{below-append, below-take, below-drop}
 use Rattle.code.specs.Layers.{width}

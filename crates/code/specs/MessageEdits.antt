@@ -1,6 +1,6 @@
 -- A segment under an edit in its marker, message or check is read, and its syndrome settles the end.
 use mathlib.Core.Path.{_≡_, refl, sym, ap, subst, _∙_}
-use mathlib.Core.Bool.{Bool, true, false}
+use mathlib.Core.Bool.{true}
 use mathlib.Core.List.{List, [], _∷_, _++_, append-assoc}
 use mathlib.Core.Logic.{⊎-elim}
 use Prim.Native.Nat.{ℕ, zero, suc, _+_, _-_, _≤_, _<_}
@@ -12,15 +12,15 @@ use lib.Seq.{drop-cons, append-snoc, set-append-seam, take-at}
 use Rattle.code.specs.Symbols.{Below}
 use Rattle.code.specs.Layers.{width}
 use Rattle.code.specs.Repair.{putIn, leaveOut}
-use Rattle.code.specs.Segment.{check, syndromeOf, separator, marker, segment, lastOf, size}
+use Rattle.code.specs.Segment.{check, syndromeOf, separator, marker}
 use Rattle.code.specs.SegmentLaws.{length-syndrome, marker-apart}
 use Rattle.code.specs.Edits.{applied, Fits}
 use Rattle.code.specs.EditsLaws.{From, applied-left}
 use Rattle.code.specs.declared.Edit.{Edit}
 use Rattle.code.specs.declared.Edit.the-variants.{None, Sub, Del, Ins}
 use Rattle.code.specs.Reading.{Shift, level, early, late, moved}
-use Rattle.code.specs.BlockLaws.{Settles, tail, heads, length-leave, length-put, leave-last, settles-none, settles-sub, settles-check, settles-del, settles-no-check, settles-ins}
-use Rattle.code.specs.StepLaws.{pre, Reads, Final, reads-settled, reads-hit}
+use Rattle.code.specs.BlockLaws.{Settles, tail, length-leave, length-put, leave-last, settles-none, settles-sub, settles-check, settles-del, settles-no-check, settles-ins}
+use Rattle.code.specs.StepLaws.{Reads, Final, reads-settled, reads-hit}
 
 -- separator and syndrome
 abbrev pub ending : List ℕ → List ℕ

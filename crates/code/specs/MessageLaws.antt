@@ -1,26 +1,26 @@
 -- A message under one edit, and the repair of both its layers.
 use mathlib.Core.Path.{_≡_, refl, sym, ap, subst, _∙_}
-use mathlib.Core.Bool.{Bool, true, false, cond, _&&_}
-use mathlib.Core.List.{List, [], _∷_, _++_, map, map-append}
-use mathlib.Core.Option.{Option, some, none}
-use Prim.Native.Nat.{ℕ, zero, suc, _+_, _-_, _*_, _%_, _^_, _≤_, _<_}
-use native.Mathlib.Nat.{mod-lt, mod-eq-of-lt, not-suc-le-zero, le-of-suc-le-suc}
+use mathlib.Core.Bool.{Bool, true, false}
+use mathlib.Core.List.{List, [], _∷_, _++_}
+use mathlib.Core.Option.{some}
+use Prim.Native.Nat.{ℕ, zero, suc, _+_, _-_, _*_, _^_, _≤_, _<_}
+use native.Mathlib.Nat.{mod-eq-of-lt, not-suc-le-zero, le-of-suc-le-suc}
 use native.Mathlib.Omega.{arith}
-use borrow.Author.Tests.{eq-eqb, eqb-true, le-ltb}
-use lib.Dec.{eqb, ltb}
-use lib.ListN.{length, getD, take, drop, set, length-append, length-map}
+use borrow.Author.Tests.{le-ltb}
+use lib.Dec.{ltb}
+use lib.ListN.{length, getD, set, length-append}
 use lib.Seq.{take-at, set-getD}
 use Rattle.code.specs.Symbols.{Below}
-use Rattle.code.specs.Layers.{Word, bit, layer, pair, syndrome, width, bits, number}
+use Rattle.code.specs.Layers.{Word, bit, layer, syndrome, width, bits, number}
 use Rattle.code.specs.LayersLaws.{length-layer, pair-layers, layer-pair-high, layer-pair-low, syndrome-below, width-least, length-bits, number-bits}
-use Rattle.code.specs.Links.{Without, here, there, Change, raised, lowered, later, Linked, same, changed, more, less}
+use Rattle.code.specs.Links.{raised, lowered, later, Linked, same, changed, more, less}
 use Rattle.code.specs.Levenshtein.{near, unique}
 use Rattle.code.specs.Repair.{repair, putIn, leaveOut}
-use Rattle.code.specs.RepairLaws.{Found, repair-is}
+use Rattle.code.specs.RepairLaws.{repair-is}
 use Rattle.code.specs.Places.{put-without, left-without}
 use Rattle.code.specs.Segment.{total, check, syndromeOf}
 use Rattle.code.specs.SegmentLaws.{length-syndrome}
-use Rattle.code.specs.Reading.{starts, repaired, bothLayers, Got, message}
+use Rattle.code.specs.Reading.{repaired, message}
 use Rattle.code.specs.declared.Link.{Link}
 use Rattle.code.specs.declared.Link.the-variants.{Changed, More, Less}
 

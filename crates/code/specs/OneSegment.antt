@@ -1,10 +1,10 @@
 -- One segment of a strand that keeps the conditions is read, and the rest keeps them too.
 use mathlib.Core.Path.{_≡_, refl, sym, ap, subst, _∙_}
-use mathlib.Core.Bool.{Bool, true, false, true≢false}
-use mathlib.Core.List.{List, [], _∷_, _++_, append-assoc, append-nil, cons≢nil, map}
+use mathlib.Core.Bool.{Bool, true, false}
+use mathlib.Core.List.{List, [], _∷_, _++_, append-assoc, cons≢nil, map}
 use mathlib.Core.Logic.{_⊎_, inl, inr, ⊎-elim}
-use mathlib.Core.Option.{Option, some, none}
-use Prim.Native.Nat.{ℕ, zero, suc, _+_, _-_, _≤_, _<_}
+use mathlib.Core.Option.{none}
+use Prim.Native.Nat.{ℕ, suc, _+_, _-_, _≤_, _<_}
 use native.Mathlib.Numerals.{add-one}
 use native.Mathlib.Omega.{arith}
 use borrow.Author.Tests.{leb-true, le-leb}
@@ -12,8 +12,8 @@ use lib.ListN.{length, take, drop, length-append}
 use lib.Seq.{append-snoc, take-at, drop-at}
 use Rattle.code.specs.Symbols.{Below}
 use Rattle.code.specs.Layers.{width}
-use Rattle.code.specs.Segment.{check, syndromeOf, separator, block, segment, lastOf, size}
-use Rattle.code.specs.SegmentLaws.{length-syndrome, length-segment}
+use Rattle.code.specs.Segment.{check, block, segment, lastOf, size}
+use Rattle.code.specs.SegmentLaws.{length-segment}
 use Rattle.code.specs.Edits.{applied, Fits}
 use Rattle.code.specs.EditsLaws.{From, from?, less, applied-left, applied-right, fits-left, fits-right, from-less}
 use Rattle.code.specs.declared.Edit.{Edit}
@@ -24,7 +24,7 @@ use Rattle.code.specs.LayoutLaws.{Each, none, both}
 use Rattle.code.specs.StepLaws.{pre, Reads, Final, length-pre, reads-settled}
 use Rattle.code.specs.OpenLaws.{Follow, final, follows}
 use Rattle.code.specs.HitLaws.{Good, Moved, parts, tail-read}
-use Rattle.code.specs.MessageEdits.{ending, Settled, message-edit, marker-edit}
+use Rattle.code.specs.MessageEdits.{ending, message-edit, marker-edit}
 
 -- an edit behind separator's first place hits
 from-hits : (marked : Bool) (k : ℕ) (e : Edit) → From (dataAt marked + (k + 1)) e → hits marked k e ≡ true

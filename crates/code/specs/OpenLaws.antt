@@ -1,15 +1,14 @@
 -- The end of a segment that its own syndrome does not settle: a clean next segment does.
-use mathlib.Core.Path.{_≡_, refl, sym, ap, subst, _∙_}
-use mathlib.Core.Bool.{Bool, true, false, cond}
-use mathlib.Core.List.{List, [], _∷_, _++_, append-assoc, append-nil}
+use mathlib.Core.Path.{_≡_, refl, sym, ap, _∙_}
+use mathlib.Core.Bool.{Bool, true, false}
+use mathlib.Core.List.{List, [], _∷_, _++_, append-nil}
 use mathlib.Core.Logic.{_⊎_, inl, inr}
-use mathlib.Core.Option.{Option, some, none}
-use Prim.Native.Nat.{ℕ, zero, suc, _+_, _-_, _≤_, _<_}
+use mathlib.Core.Option.{some}
+use Prim.Native.Nat.{ℕ, suc, _+_, _-_, _≤_}
 use native.Mathlib.Omega.{arith}
-use lib.ListN.{length, drop, length-append}
-use Rattle.code.specs.Layers.{width}
+use lib.ListN.{length, length-append}
 use Rattle.code.specs.Segment.{segment, lastOf, size}
-use Rattle.code.specs.Reading.{Shift, level, early, late, moved, dataAt, separatorAt, gotWhole, Got, message, settled, behind, around, endOf}
+use Rattle.code.specs.Reading.{Shift, level, early, late, moved, dataAt, separatorAt, gotWhole, message, settled, behind, endOf}
 use Rattle.code.specs.TailLaws.{search, ends-level, ends-early, ends-late}
 use Rattle.code.specs.StepLaws.{pre, Reads, drop-pre, got-pre}
 

@@ -1,16 +1,16 @@
 -- Laws of the tests that reading makes.
-use mathlib.Core.Path.{_≡_, refl, sym, ap, _∙_}
+use mathlib.Core.Path.{_≡_, refl, sym, _∙_}
 use mathlib.Core.Bool.{Bool, true, false, _&&_}
 use mathlib.Core.List.{List, [], _∷_, _++_}
-use mathlib.Core.Option.{Option, some, none}
-use Prim.Native.Nat.{ℕ, zero, suc, _+_, _-_, _≤_, _<_}
+use mathlib.Core.Option.{some, none}
+use Prim.Native.Nat.{ℕ, suc, _+_, _-_}
 use native.Mathlib.Omega.{arith}
 use borrow.Author.Tests.{eq-eqb, ne-eqb, eqb-true}
 use lib.Dec.{eqb}
 use lib.ListN.{length, getD, drop, drop-of-length-le}
 use lib.Seq.{drop-append-add, drop-append-le, drop-cons}
 use Rattle.code.specs.EditsLaws.{both}
-use Rattle.code.specs.Reading.{starts, twoEqual, threeEqual, Shift, level, early, late, separatorAt}
+use Rattle.code.specs.Reading.{starts, twoEqual, threeEqual, level, early, late, separatorAt}
 
 -- a place behind the first of two joined lists
 pub drop-off : (n : ℕ) (u r : List ℕ) (d : ℕ) → n ≡ length u + d → drop n (u ++ r) ≡ drop d r

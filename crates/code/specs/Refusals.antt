@@ -6,7 +6,6 @@
 --   limits      k, B, the number of segments, the received strand
 --   orderTest   the tests 1, 2 and 3 of k and B
 use mathlib.Core.Bool.{Bool, true, false, not, _||_}
-use mathlib.Core.List.{List, _∷_}
 use Prim.Native.Nat.{ℕ, _*_, _/_, _%_}
 use lib.Dec.{eqb, ltb}
 use Rattle.code.specs.declared.Refusal.{Refusal}

@@ -1,21 +1,19 @@
 -- A strand that keeps the conditions is read whole: the induction over its segments.
-use mathlib.Core.Path.{_≡_, refl, sym, ap, subst, _∙_}
-use mathlib.Core.Bool.{Bool, true, false}
-use mathlib.Core.List.{List, [], _∷_, _++_, map}
+use mathlib.Core.Path.{_≡_, refl, ap, subst}
+use mathlib.Core.Bool.{Bool, true}
+use mathlib.Core.List.{List, [], _∷_, map}
 use mathlib.Core.Option.{Option, some, none}
-use Prim.Native.Nat.{ℕ, zero, suc, _+_}
+use Prim.Native.Nat.{ℕ, _+_}
 use native.Mathlib.Omega.{arith}
 use lib.ListN.{length, take, drop}
 use Rattle.code.specs.Segment.{segment, lastOf}
-use Rattle.code.specs.Layout.{joined}
 use Rattle.code.specs.LayoutLaws.{Each}
 use Rattle.code.specs.LayoutLaws as L
 use Rattle.code.specs.Edits.{judged}
 use Rattle.code.specs.JudgedLaws.{judged-none}
-use Rattle.code.specs.Reading.{Got, message, One, read, got, endOf, withMessage, withEnd, withEdit, readOne}
+use Rattle.code.specs.Reading.{message, read, got, withMessage, readOne}
 use Rattle.code.specs.Conditions.{received, Allowed}
-use Rattle.code.specs.Strands.{Outcome, reading, withOne, markOf, marksOf, countOf}
-use Rattle.code.specs.StepLaws.{Reads}
+use Rattle.code.specs.Strands.{Outcome, reading, marksOf, countOf}
 use Rattle.code.specs.OneSegment.{Proper, Step, step}
 use Rattle.code.specs.declared.Edit.{Edit}
 use Rattle.code.specs.declared.Edit.the-variants.{None, Sub, Del, Ins}

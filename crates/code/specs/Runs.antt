@@ -1,6 +1,6 @@
 -- Runs of the reading steps on the layout 2, 3, 2: each lost step, each j and e, and several d. The verdicts are worked out by hand from
 -- document 01; the working of each is in docs/RUNS.md.
-use mathlib.Core.Bool.{Bool, true, false, _&&_}
+use mathlib.Core.Bool.{Bool, true, _&&_}
 use mathlib.Core.List.{List, [], _∷_, map}
 use Prim.Native.Nat.{ℕ, _+_, _*_}
 use lib.Dec.{T}
@@ -10,7 +10,6 @@ use Rattle.code.specs.Segment.{total, check, sep, syndromeOf, separator,
 use Rattle.code.specs.Edits.{same, firstEdit, judged}
 use Rattle.code.specs.Reading.{starts, twoEqual, threeEqual, separatorAt, checkAgrees, syndromeAgrees, repaired, messageAt, messageWithout, got, clean, endOf, readOne}
 use Rattle.code.specs.Strands.{Outcome, above, pairs, firstStart, scan, reading, outcomes}
-use Rattle.code.specs.declared.Edit.{Edit}
 use Rattle.code.specs.declared.Edit.the-variants.{None, Sub, Del, Ins}
 use Rattle.code.specs.declared.Verdict.{Verdict}
 use Rattle.code.specs.declared.Verdict.the-variants.{Read, Lost, NoStart}

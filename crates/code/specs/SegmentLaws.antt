@@ -1,16 +1,16 @@
 -- Laws of a written segment, in the order of the definitions.
-use mathlib.Core.Path.{_≡_, refl, sym, ap, _∙_}
+use mathlib.Core.Path.{_≡_, refl, sym, _∙_}
 use mathlib.Core.Bool.{Bool, true, false, cond, _||_}
-use mathlib.Core.List.{List, [], _∷_, _++_}
+use mathlib.Core.List.{List, _∷_}
 use Prim.Native.Nat.{ℕ, zero, suc, _+_, _-_, _*_, _%_, _^_, _≤_, _<_}
 use native.Mathlib.Nat.{mod-lt}
 use native.Mathlib.Omega.{arith}
-use borrow.Author.Tests.{eq-eqb, ne-eqb, eqb-true, eqb-false}
+use borrow.Author.Tests.{eqb-true, eqb-false}
 use lib.Dec.{eqb}
-use lib.ListN.{length, getD, length-append, length-map}
+use lib.ListN.{length, getD, length-append}
 use Rattle.code.specs.Symbols.{Below}
 use Rattle.code.specs.BelowLaws.{below-append}
-use Rattle.code.specs.Layers.{layer, pair, syndrome, width, bits}
+use Rattle.code.specs.Layers.{layer, syndrome, width, bits}
 use Rattle.code.specs.LayersLaws.{length-bits, length-pair, pair-below, width-least}
 use Rattle.code.specs.Segment.{total, check, either, sep, syndromeOf, separator, marker, block, segment, lastOf, size}
 

@@ -1,21 +1,16 @@
 -- What steps 1 to 8 make of one segment: its message, and an end.
-use mathlib.Core.Path.{_≡_, refl, sym, ap, subst, _∙_}
-use mathlib.Core.Bool.{Bool, true, false, cond, true≢false}
+use mathlib.Core.Path.{_≡_, refl, sym, ap, _∙_}
+use mathlib.Core.Bool.{Bool, true, false}
 use mathlib.Core.List.{List, [], _∷_, _++_, append-assoc}
-use mathlib.Core.Option.{Option, some, none}
-use Prim.Native.Nat.{ℕ, zero, suc, _+_, _-_, _≤_, _<_}
+use mathlib.Core.Option.{some}
+use Prim.Native.Nat.{ℕ, _+_, _-_}
 use native.Mathlib.Omega.{arith}
-use lib.ListN.{length, getD, take, drop, length-append}
-use lib.Seq.{take-at, drop-at}
-use Rattle.code.specs.Symbols.{Below}
+use lib.ListN.{length, take, drop, length-append}
 use Rattle.code.specs.Layers.{width}
-use Rattle.code.specs.Repair.{putIn, leaveOut}
-use Rattle.code.specs.Segment.{check, syndromeOf, separator, marker, block, segment, lastOf, size}
-use Rattle.code.specs.SegmentLaws.{length-syndrome, marker-apart}
-use Rattle.code.specs.Reading.{starts, twoEqual, Shift, level, early, late, moved, whole, dataAt, separatorAt, afterSeparator, syndromeAgrees, messageAt, gotWhole, gotHit, got, Got, message, clean, settled, behind, around, endOf}
+use Rattle.code.specs.Segment.{check, syndromeOf, separator, marker, block, segment}
+use Rattle.code.specs.Reading.{Shift, moved, dataAt, separatorAt, afterSeparator, syndromeAgrees, gotWhole, got, message, endOf}
 use Rattle.code.specs.ReadingLaws.{starts-self, two-yes, two-no}
-use Rattle.code.specs.BlockLaws.{Settles, tail, heads, settles-none, settles-del, settles-ins}
-use Rattle.code.specs.TailLaws.{search}
+use Rattle.code.specs.BlockLaws.{Settles, tail}
 
 -- the marker, or nothing before a first segment
 abbrev pub pre : Bool → ℕ → List ℕ → List ℕ

@@ -16,7 +16,6 @@ use Rattle.code.specs.Symbols.{bytes}
 use Rattle.code.specs.Segment.{lastOf, size}
 use Rattle.code.specs.Layout.{joined}
 use Rattle.code.specs.Reading.{clean, One, read, lost, readOne}
-use Rattle.code.specs.declared.Edit.{Edit}
 use Rattle.code.specs.declared.Edit.the-variants.{None, Sub, Del, Ins}
 use Rattle.code.specs.declared.Verdict.{Verdict}
 use Rattle.code.specs.declared.Verdict.the-variants.{Read, Lost, NoStart}

@@ -1,12 +1,12 @@
 -- Laws of reading a whole strand, whatever was received.
-use mathlib.Core.Path.{_≡_, refl, sym, ap, subst, _∙_}
+use mathlib.Core.Path.{_≡_, refl, sym, ap, _∙_}
 use mathlib.Core.Bool.{Bool, true, false, cond}
 use mathlib.Core.List.{List, [], _∷_, _++_, map, append-nil, cons≢nil, append-assoc}
 use mathlib.Core.Option.{Option, some, none}
-use Prim.Native.Nat.{ℕ, zero, suc, _+_, _-_, _≤_, _<_}
+use Prim.Native.Nat.{ℕ, suc, _+_, _-_, _≤_}
 use native.Mathlib.Omega.{arith}
-use lib.ListN.{length, getD, take, drop, length-map, take-append-drop, length-append}
-use lib.Seq.{take-length, take-at, length-take-le}
+use lib.ListN.{length, getD, take, drop, length-map, take-append-drop}
+use lib.Seq.{take-length, take-at}
 use lib.Dec.{eqb}
 use Rattle.code.specs.Symbols.{Below}
 use Rattle.code.specs.Segment.{check, marker, block, segment, lastOf, size}
@@ -14,7 +14,7 @@ use Rattle.code.specs.SegmentLaws.{length-segment}
 use Rattle.code.specs.Layout.{joined}
 use Rattle.code.specs.Edits.{judged}
 use Rattle.code.specs.EditsLaws.{same-refl}
-use Rattle.code.specs.Reading.{Got, message, One, read, lost, level, got, endOf, clean, readOne, withMessage, withEnd, withEdit}
+use Rattle.code.specs.Reading.{Got, message, One, read, lost, got, endOf, clean, readOne, withMessage, withEdit}
 use Rattle.code.specs.ReadingLaws.{starts-split}
 use Rattle.code.specs.StepLaws.{pre, Reads, Final, reads-settled}
 use Rattle.code.specs.MessageEdits.{ending, message-edit}

@@ -1,21 +1,19 @@
 -- A segment hit in separator or syndrome: message and check are whole, and the next segment settles the end.
-use mathlib.Core.Path.{_≡_, refl, sym, ap, subst, _∙_}
-use mathlib.Core.Bool.{Bool, true, false, cond, _&&_, _||_, true≢false}
-use mathlib.Core.List.{List, [], _∷_, _++_, append-assoc}
+use mathlib.Core.Path.{_≡_, refl, sym, ap, _∙_}
+use mathlib.Core.Bool.{Bool, true, false}
+use mathlib.Core.List.{List, _∷_, _++_, append-assoc}
 use mathlib.Core.Option.{Option, some, none}
 use Prim.Native.Nat.{ℕ, zero, suc, _+_, _-_, _≤_, _<_}
 use native.Mathlib.Omega.{arith}
 use borrow.Author.Tests.{eq-eqb, eqb-true}
 use lib.Dec.{eqb}
-use lib.ListN.{length, getD, take, drop, set, length-append}
+use lib.ListN.{length, getD, take, drop}
 use lib.Seq.{take-at, drop-at}
-use Rattle.code.specs.Symbols.{Below}
-use Rattle.code.specs.Layers.{width}
-use Rattle.code.specs.Segment.{check, syndromeOf, separator, marker, block, segment, lastOf, size}
-use Rattle.code.specs.SegmentLaws.{length-syndrome, width-two, separator-apart, marker-apart, Apart}
+use Rattle.code.specs.Segment.{check, syndromeOf, separator, marker, block, segment}
+use Rattle.code.specs.SegmentLaws.{marker-apart}
 use Rattle.code.specs.EditsLaws.{both}
-use Rattle.code.specs.Reading.{starts, threeEqual, Shift, level, early, late, moved, firstShift, separatorAt, afterSeparator, checkAgrees, syndromeAgrees, taken, messageAt, messageWithout, gotWhole, Got, message, clean, settled, around}
-use Rattle.code.specs.ReadingLaws.{drop-off, drop-last, starts-self, starts-is, three-yes, three-no, three-no′, at-level, at-none}
+use Rattle.code.specs.Reading.{starts, threeEqual, Shift, level, early, late, moved, firstShift, separatorAt, checkAgrees, messageAt, messageWithout, gotWhole, message, clean}
+use Rattle.code.specs.ReadingLaws.{drop-off, drop-last, starts-self, at-none}
 use Rattle.code.specs.BlockLaws.{heads}
 
 -- The message

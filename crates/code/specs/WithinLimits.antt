@@ -1,9 +1,9 @@
 -- A strand that keeps the one-edit conditions for an order within the limits is short enough to be read, and has no foreign letter.
-use mathlib.Core.Path.{_≡_, refl, sym, ap, _∙_}
+use mathlib.Core.Path.{_≡_, sym, ap, _∙_}
 use mathlib.Core.Bool.{Bool, true, false}
-use mathlib.Core.List.{List, [], _∷_, _++_, map}
-use Prim.Native.Nat.{ℕ, zero, suc, _+_, _-_, _*_, _/_, _%_, _≤_, _<_}
-use native.Mathlib.Nat.{mul-add, mul-le-mul-left, mul-le-mul-right, mul-comm}
+use mathlib.Core.List.{List, [], _∷_, map}
+use Prim.Native.Nat.{ℕ, suc, _+_, _-_, _*_, _/_, _≤_, _<_}
+use native.Mathlib.Nat.{mul-add, mul-le-mul-left}
 use native.Mathlib.Omega.{arith}
 use lib.ListN.{length, replicate, length-append, length-take, length-drop, length-set, length-replicate}
 use Rattle.code.specs.declared.Edit.{Edit}
@@ -14,7 +14,7 @@ use Rattle.code.specs.SymbolsLaws.{symbols-below, length-symbols, decode
 use Rattle.code.specs.BelowLaws.{below-append}
 use Rattle.code.specs.Layers.{width}
 use Rattle.code.specs.LayersLaws.{width-least}
-use Rattle.code.specs.Segment.{segment, lastOf, size}
+use Rattle.code.specs.Segment.{segment, lastOf}
 use Rattle.code.specs.SegmentLaws.{length-segment, segment-below}
 use Rattle.code.specs.Layout.{sum, cut, extent, layoutOf}
 use Rattle.code.specs.LayoutLaws.{Each, none, both, cut-lengths, length-cut, cut-below, extent-equal, layout-sum}

@@ -3,7 +3,7 @@
 --   writeTest   the tests 1, 2, 3 and 5
 --   wroteOf     the writer's answer
 --   bufferOf    the lent buffer afterwards
-use mathlib.Core.Bool.{Bool, true, false, not}
+use mathlib.Core.Bool.{false, not}
 use mathlib.Core.List.{List, _++_}
 use Prim.Native.Nat.{ℕ}
 use lib.Dec.{eqb, ltb}

@@ -1,20 +1,19 @@
 -- A line that holds a label, by its length and its digits.
 --   other-length, no-digits, label-line   what the line answers, in the order of the tests
 use mathlib.Core.Path.{_≡_, refl, sym, ap, _∙_}
-use mathlib.Core.Bool.{Bool, true, false, _&&_}
-use mathlib.Core.List.{List, [], _∷_, _++_, append-nil}
+use mathlib.Core.Bool.{Bool, true, false}
+use mathlib.Core.List.{List, [], _∷_, append-nil}
 use Prim.Native.Nat.{ℕ, _/_}
 use native.Mathlib.Omega.{arith}
 use borrow.Author.Tests.{ne-eqb}
-use lib.Dec.{eqb, leb}
-use lib.ListN.{length, drop, drop-of-length-le}
+use lib.ListN.{length}
 use Rattle.code.specs.declared.Refusal.the-variants.{Label}
 use Rattle.code.specs.declared.Order.the-variants as O
 use Rattle.code.specs.Label.{orderOf}
 use Rattle.hex.specs.declared.Hex.the-variants.{Bytes, Bad}
 use Rattle.hex.specs.Digits.{allDigits, hexBytes, decodable, hexOf, frontOf}
 use Rattle.hex.specs.DigitsLaws.{length-hex-bytes}
-use Rattle.desk.specs.LabelLine.{labelled, orderLine}
+use Rattle.desk.specs.LabelLine.{orderLine}
 
 pub other-length : (line : List ℕ) → (length line ≡ 8 → ⊥) → O.Refused Label ≡ orderLine line
 other-length line h = rw (ne-eqb (length line) 8 h)

@@ -1,6 +1,6 @@
 -- Demand 3 of the C call that reads, from demand 3 of the library's call.
 --   regained    it holds of a call that answers and writes what is defined
-use mathlib.Core.Path.{_≡_, refl, sym, ap, _∙_}
+use mathlib.Core.Path.{_≡_, ap, _∙_}
 use mathlib.Core.List.{List}
 use Prim.Native.Nat.{ℕ, _+_}
 use lib.ListN.{length}
@@ -12,7 +12,6 @@ use Rattle.code.specs.Writing.{bufferOf}
 use Rattle.code.specs.ReadCall.{readTest, outcomesOf, countedOf, bytesOf, sheetFor}
 use Rattle.code.specs.ReadCallLaws.{Demand-3-call, demand-3-holds}
 use Rattle.dnalm_c.specs.declared.Counts.{Counts}
-use Rattle.dnalm_c.specs.Answers.{readAnswer}
 use Rattle.dnalm_c.specs.Demand3.{Demand-3-counts}
 use Rattle.dnalm_c.proofs.Numbers.{fromCounted}
 

@@ -15,7 +15,7 @@ use Rattle.code.specs.declared.Tallied as code-tallied
 use Rattle.code.specs.declared.Tallied.the-variants as T
 use Rattle.code.specs.Refusals.{numberOf, testNumber, testPlace}
 use Rattle.code.specs.Strands.{countOf}
-use Rattle.code.specs.Label.{numberOf4, kOf, bOf, readTest}
+use Rattle.code.specs.Label.{kOf, bOf}
 use Rattle.dnalm_c.specs.declared.Written.{Written}
 use Rattle.dnalm_c.specs.declared.Counts.{Counts}
 use Rattle.dnalm_c.specs.declared.Piece.{Piece}

@@ -7,8 +7,8 @@ use native.Mathlib.Nat.{not-suc-le-zero, le-of-suc-le-suc}
 use native.Mathlib.Omega.{arith}
 use lib.ListN.{length, getD, take}
 use mir.Val.{boolByte}
-use Rattle.code.specs.Layers.{Word, bit, layer, digit, pair}
-use Rattle.code.specs.LayersLaws.{digit-below, layer-at}
+use Rattle.code.specs.Layers.{Word, digit, pair}
+use Rattle.code.specs.LayersLaws.{digit-below}
 use Rattle.code.specs.Repair.{putIn, leaveOut}
 
 -- a bit as a number that the code reads

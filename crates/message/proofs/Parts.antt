@@ -1,7 +1,7 @@
 -- The received symbols as parts of the strand: the k symbols at d, one less or one more.
 --   at-level, at-early, at-late   the received symbols, by the number of a shift
 --   but-last                      all but the last of one symbol more
-use mathlib.Core.Path.{_≡_, refl, ap, subst, _∙_}
+use mathlib.Core.Path.{_≡_, refl, subst, _∙_}
 use mathlib.Core.List.{List}
 use Prim.Native.Nat.{ℕ, _+_, _-_, _≤_, _<_}
 use native.Mathlib.Omega.{arith}

@@ -1,13 +1,12 @@
 -- The search for the separator, by the number of a shift.
-use mathlib.Core.Path.{_≡_, refl, sym, ap, _∙_}
+use mathlib.Core.Path.{_≡_, sym, ap, _∙_}
 use mathlib.Core.Bool.{Bool, true, false}
 use mathlib.Core.List.{List}
-use mathlib.Core.Option.{Option, some, none}
-use Prim.Native.Nat.{ℕ, zero, suc, _+_, _≤_, _<_}
+use Prim.Native.Nat.{ℕ, zero, suc, _+_, _<_}
 use native.Mathlib.Omega.{arith}
 use lib.ListN.{drop}
 use lib.Seq.{drop-drop}
-use Rattle.code.specs.Reading.{threeEqual, level, early, late, moved, separatorAt}
+use Rattle.code.specs.Reading.{threeEqual, early, late, moved, separatorAt}
 use Rattle.code.specs.ReadingLaws.{at-level, at-early, at-late, at-none}
 use Rattle.compare.specs.Offsets.{triedAt}
 use Rattle.compare.specs.OffsetsLaws.{tried-level, tried-early, tried-late}

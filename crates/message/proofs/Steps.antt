@@ -1,5 +1,5 @@
 -- Steps 3 to 7 as the code makes them, at places of the whole strand.
-use mathlib.Core.Path.{_≡_, refl, sym, ap, subst, _∙_}
+use mathlib.Core.Path.{_≡_, refl, ap, _∙_}
 use mathlib.Core.Bool.{Bool, true, false, cond, false≢true}
 use mathlib.Core.List.{List, [], _∷_}
 use mathlib.Core.Option.{Option, some, none}
@@ -14,7 +14,7 @@ use Rattle.code.specs.Layers.{layer, width, number}
 use Rattle.code.specs.LayersLaws.{width-least}
 use Rattle.code.specs.Links.{sent}
 use Rattle.code.specs.Repair.{repair}
-use Rattle.code.specs.Segment.{check, syndromeOf}
+use Rattle.code.specs.Segment.{check}
 use Rattle.code.specs.Reading.{starts, threeEqual, Shift, level, early, late, moved, firstShift, separatorAt, checkAgrees, syndromeAgrees, afterSeparator, message, lost, bothLayers, repaired, linkOf, taken, messageAt, messageWithout}
 use Rattle.code.specs.Reading as R
 use Rattle.compare.specs.Offsets.{triedAt}

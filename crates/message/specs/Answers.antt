@@ -11,7 +11,7 @@ use Prim.Native.Nat.{ℕ, zero, suc}
 use Rattle.code.specs.Symbols.{Below}
 use Rattle.code.specs.Reading.{Shift, level, early, late, starts, message, lost}
 use Rattle.code.specs.Reading as R
-use lib.ListN.{take, drop}
+use lib.ListN.{drop}
 use Rattle.tail.specs.declared.Tail.{Tail}
 use Rattle.tail.specs.Tails.{syndromeIn, IsTail}
 use Rattle.message.specs.declared.Got.{Got}

@@ -21,7 +21,6 @@ ghost use Rattle.code.specs.Reading.{bothLayers, separatorAt, linkOf, moved, af
 ghost use Rattle.layers.specs.Answers.{both};
 ghost use Rattle.tail.specs.Tails.{IsTail};
 ghost use Rattle.message.specs.Answers.{shiftIndex, shiftOf, tookBy, IsGot};
-ghost use mathlib.Core.Option.{some};
 
 // Step 0 and what follows the message that was read, or the step that loses it.
 pub struct Got {

@@ -4,7 +4,7 @@
 --   tail-below     a tail's symbols are symbols
 --   tail-last      the last symbol of a segment
 --   marked-block   a segment is its marker and its block
-use mathlib.Core.Path.{_≡_, refl, sym, ap, ap₂, _∙_}
+use mathlib.Core.Path.{_≡_, refl, sym, ap, _∙_}
 use mathlib.Core.Bool.{Bool, true, false}
 use mathlib.Core.List.{List, [], _∷_, _++_}
 use Prim.Native.Nat.{ℕ, zero, suc, _+_, _-_, _*_, _<_, _≤_}
@@ -14,7 +14,7 @@ use Rattle.code.specs.Symbols.{Below}
 use Rattle.code.specs.Layers.{bit, digit, layer, syndrome, number, pair, bits, width}
 use Rattle.code.specs.LayersLaws.{length-layer, length-bits, length-pair, bits-number, pair-layers}
 use Rattle.code.specs.Segment.{check, sep, separator, syndromeOf, block, segment, lastOf}
-use Rattle.code.specs.SegmentLaws.{check-below, separator-apart, length-syndrome, syndrome-symbols-below, width-two}
+use Rattle.code.specs.SegmentLaws.{check-below, separator-apart, syndrome-symbols-below, width-two}
 use Rattle.layers.specs.declared.Layers.{Layers}
 use Rattle.layers.specs.Answers.{both}
 use Rattle.tail.specs.declared.Tail.{Tail}

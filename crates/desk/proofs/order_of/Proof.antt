@@ -1,4 +1,4 @@
-use mathlib.Core.Path.{_≡_, sym, _∙_}
+use mathlib.Core.Path.{sym, _∙_}
 use borrow.Author.Needs.{needs}
 use Rattle.desk.proofs.Lines.{other-length, no-digits, label-line}
 use Rattle.desk.proofs.order_of.Statement.{statement}

@@ -1,4 +1,4 @@
-use mathlib.Core.Path.{subst, sym, _∙_}
+use mathlib.Core.Path.{subst, _∙_}
 use mathlib.Core.Bool.{false≢true}
 use Prim.Native.Nat.{ℕ}
 use borrow.Author.Needs.{needs}

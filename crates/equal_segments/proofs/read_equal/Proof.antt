@@ -1,18 +1,13 @@
-use mathlib.Core.Path.{_≡_, sym, ap, _∙_}
+use mathlib.Core.Path.{sym, ap, _∙_}
 use mathlib.Core.List.{List}
 use Prim.Native.Nat.{ℕ}
 use native.Mathlib.Omega.{arith}
 use borrow.Author.Needs.{needs}
-use lib.ListN.{length, replicate}
-use lib.Seq.{length-take-le}
 use Rattle.code.specs.Strands.{outcomes, messagesOf, marksOf}
 use Rattle.reading.specs.Walks.{endsFrom}
 use Rattle.equal_segments.proofs.Equal.{equal-front, equal-within, equal-sum, equal-length}
 use Rattle.equal_segments.proofs.read_equal.Statement.{statement}
 use Rattle.equal_segments.proofs.read_equal.Tie as tie
-use Rattle.equal_segments.proofs.read_equal.Reads as reads
-use Rattle.equal_segments.proofs.read_equal.Lts as lts
-use Rattle.reading.proofs.read_layout.Reads as read-layout-reads
 
 array-share-prefix-lengths : tie.Need-array-share-prefix-lengths
 array-share-prefix-lengths c = search needs

@@ -1,10 +1,9 @@
-use mathlib.Core.Path.{_≡_, refl, sym, ap, _∙_}
+use mathlib.Core.Path.{sym, ap, _∙_}
 use mathlib.Core.Bool.{false}
-use mathlib.Core.List.{List}
 use Prim.Native.Nat.{ℕ, _+_, _*_, _/_}
 use native.Mathlib.Omega.{arith}
 use borrow.Author.Needs.{needs}
-use lib.ListN.{length, replicate}
+use lib.ListN.{replicate}
 use lib.Seq.{length-take-le}
 use Rattle.code.specs.Symbols.{bytes}
 use Rattle.code.specs.Strands.{outcomes, sheetOf}
@@ -13,12 +12,6 @@ use Rattle.sheet.specs.Sheet.{countsOf}
 use Rattle.equal_segments.proofs.Equal.{front-inside, front-is, front-length, front-most, front-below, front-put, messages-length, marks-length}
 use Rattle.equal_segments.proofs.read_symbols.Statement.{statement}
 use Rattle.equal_segments.proofs.read_symbols.Tie as tie
-use Rattle.equal_segments.proofs.read_symbols.Reads as reads
-use Rattle.equal_segments.proofs.read_symbols.Lts as lts
-use Rattle.equal_segments.proofs.read_equal.Reads as read-equal-reads
-use Rattle.sheet.proofs.counts_of.Reads as counts-of-reads
-use Rattle.sheet.proofs.pack_sheet.Reads as pack-sheet-reads
-use Rattle.packing.proofs.pack.Reads as pack-reads
 
 mul-n : tie.Need-mul-n
 mul-n c = search needs

@@ -1,7 +1,7 @@
-use mathlib.Core.Path.{_≡_, refl, sym, ap, _∙_}
-use Prim.Native.Nat.{ℕ, _+_, _*_}
+use mathlib.Core.Path.{sym}
+use Prim.Native.Nat.{_*_}
 use native.Mathlib.Omega.{arith}
-use lib.ListN.{length, replicate}
+use lib.ListN.{replicate}
 use lib.Seq.{length-take-le}
 use Rattle.code.specs.Strands.{outcomes}
 use Rattle.equal_segments.proofs.Equal.{outcomes-length}
@@ -9,9 +9,6 @@ use Rattle.equal_segments.proofs.Spans.{first-span, later-span}
 use borrow.Author.Needs.{needs}
 use Rattle.equal_segments.proofs.span_of.Statement.{statement}
 use Rattle.equal_segments.proofs.span_of.Tie as tie
-use Rattle.equal_segments.proofs.span_of.Reads as reads
-use Rattle.equal_segments.proofs.span_of.Lts as lts
-use Rattle.equal_segments.proofs.read_equal.Reads as read-equal-reads
 
 mul-n : tie.Need-mul-n
 mul-n c = search needs

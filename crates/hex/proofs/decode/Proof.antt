@@ -3,7 +3,6 @@ use mathlib.Core.Bool.{true, false}
 use native.Mathlib.Omega.{arith}
 use borrow.Author.Needs.{needs}
 use borrow.Author.Tests.{eq-eqb, ne-eqb, le-leb, lt-leb, not-true, not-false}
-use lib.ListN.{length}
 use Rattle.hex.specs.Digits.{allDigits}
 use Rattle.hex.specs.DigitsLaws.{length-hex-bytes}
 use Rattle.hex.proofs.decode.Statement.{statement}

@@ -5,7 +5,7 @@ use native.Mathlib.Omega.{arith}
 use lib.ListN.{length}
 use lib.Bits.{bitAnd, and-mask}
 use lib.Pow.{shl-exact}
-use Rattle.code.specs.Layers.{layer, sumOfPlaces, syndrome}
+use Rattle.code.specs.Layers.{sumOfPlaces, syndrome}
 use Rattle.code.specs.LayersLaws.{length-layer, width-least}
 use Rattle.layers.specs.declared.Layers.{Layers}
 use Rattle.layers.specs.Answers.{both}

@@ -1,11 +1,9 @@
-use mathlib.Core.Path.{_≡_, sym, _∙_}
+use mathlib.Core.Path.{_≡_}
 use mathlib.Core.Bool.{true, false}
-use mathlib.Core.List.{List}
 use Prim.Native.Nat.{ℕ, _+_, _-_, _≤_, _<_}
 use native.Mathlib.Omega.{arith}
 use borrow.Author.Count.{below-none, below-more}
 use lib.ListN.{drop}
-use lib.Seq.{drop-drop}
 use Rattle.code.specs.Reading.{threeEqual}
 use Rattle.compare.specs.Offsets.{triedAt}
 use Rattle.compare.specs.OffsetsLaws.{tried-small}

@@ -1,15 +1,9 @@
-use mathlib.Core.Path.{_≡_, refl, sym, ap, subst, _∙_}
-use mathlib.Core.List.{List}
-use Prim.Native.Nat.{ℕ}
+use mathlib.Core.Path.{refl, sym, _∙_}
 use native.Mathlib.Omega.{arith}
 use borrow.Author.Needs.{needs}
 use lib.ListN.{length}
-use Rattle.code.specs.Symbols.{Below}
-use Rattle.code.specs.Layers.{layer, number, pair}
-use Rattle.code.specs.LayersLaws.{pair-below}
-use Rattle.code.specs.Repair.{repair, mendedWord}
+use Rattle.code.specs.Layers.{layer, number}
 use Rattle.layers.specs.Answers.{highs, lows}
-use Rattle.tail.specs.Tails.{IsTail}
 use Rattle.message.proofs.Mends.{lost-high, lost-low, read-both, gets-none, gets-word, word-length, mended-given}
 use Rattle.message.proofs.Steps.{width-most}
 use Rattle.message.proofs.mend_both.Statement.{statement}

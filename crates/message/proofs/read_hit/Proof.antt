@@ -1,5 +1,5 @@
 use borrow.Author.Needs.{needs}
-use mathlib.Core.Path.{_≡_, refl, sym, ap, _∙_}
+use mathlib.Core.Path.{sym, ap, _∙_}
 use mathlib.Core.List.{List}
 use Prim.Native.Nat.{ℕ, _+_}
 use native.Mathlib.Omega.{arith}
@@ -11,17 +11,10 @@ use Rattle.message.proofs.Mends.{is-lost, is-got}
 use Rattle.message.proofs.Steps.{found-room, found-over, hit-room}
 use Rattle.message.proofs.read_hit.Statement.{statement}
 use Rattle.message.proofs.read_hit.Tie as tie
-use Rattle.message.proofs.read_hit.Reads as reads
-use Rattle.message.proofs.read_hit.Lts as lts
-use Rattle.message.proofs.lost_in.Reads as lost-in-reads
-use Rattle.message.proofs.shifted.Reads as shifted-reads
-use Rattle.message.proofs.taken.Reads as taken-reads
 
--- src/lib.rt:221:9
 lost-in-requires : tie.Need-lost-in-requires
 lost-in-requires c κs = search needs
 
--- src/lib.rt:221:9
 returns : tie.Need-returns
 returns c =
     let a = c .before .before .before .before .args in
@@ -30,26 +23,21 @@ returns c =
     let q = found-over k (a .j) d (c .before .if1 .taken) (c .before .before .before .before .pre .1 .0 .0) in
     is-lost _ _ (c .lost-in .result) 3 (ap (gotHit k (drop (a .p) (a .s .now))) q) (c .lost-in .ensures)
 
--- src/lib.rt:223:18
 shifted-requires : tie.Need-shifted-requires
 shifted-requires c κs = search needs
 
--- src/lib.rt:223:14
 add-taken : tie.Need-add-taken
 add-taken c = search needs
 
--- src/lib.rt:223:5
 taken-requires : tie.Need-taken-requires
 taken-requires c κs =
     let a = c .before .before .before .before .before .args in
     let f = found-room (length (a .out .now)) (a .j) (drop (a .p + 2) (a .s .now)) (omega arith) (c .before .before .before .before .before .pre .1 .0 .0) in
     ((omega arith, omega arith, hit-room (length (a .out .now)) (a .j) (a .p) (c .before .shifted .result) (a .s .now) (omega arith) (c .before .shifted .ensures .0) (f .1)), c .before .before .before .before .before .pre .1 .1)
 
--- src/lib.rt:214:1
 same-length : tie.Need-same-length
 same-length c = search needs
 
--- src/lib.rt:214:1
 returns-2 : tie.Need-returns-2
 returns-2 c =
     let a = c .before .before .before .before .before .before .before .before .args in

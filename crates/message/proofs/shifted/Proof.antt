@@ -1,7 +1,6 @@
 use mathlib.Core.Path.{_≡_, _∙_}
 use Prim.Native.Nat.{ℕ, zero, suc, _+_, _≤_, _<_}
 use native.Mathlib.Omega.{arith}
-use borrow.Author.Needs.{needs}
 use Rattle.code.specs.Reading.{moved}
 use Rattle.message.specs.Answers.{shiftOf}
 use Rattle.message.proofs.Steps.{tried-shift}

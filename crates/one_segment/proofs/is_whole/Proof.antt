@@ -1,7 +1,4 @@
 use borrow.Author.Needs.{needs}
-use mathlib.Core.Path.{_≡_, _∙_}
-use lib.ListN.{drop}
-use Rattle.code.specs.Reading.{whole}
 use Rattle.one_segment.proofs.is_whole.Statement.{statement}
 use Rattle.one_segment.proofs.is_whole.Tie as tie
 

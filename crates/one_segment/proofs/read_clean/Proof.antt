@@ -1,14 +1,12 @@
-use mathlib.Core.Path.{_≡_, refl, sym, ap, subst, _∙_}
+use mathlib.Core.Path.{_≡_, refl, sym, ap, _∙_}
 use mathlib.Core.Bool.{true}
-use mathlib.Core.List.{List}
 use Prim.Native.Nat.{ℕ, _+_, _-_}
 use borrow.Author.Needs.{needs}
 use native.Mathlib.Omega.{arith}
 use lib.ListN.{length, take, drop}
-use Rattle.code.specs.Symbols.{Below}
 use Rattle.code.specs.Segment.{syndromeOf}
 use Rattle.message.proofs.Steps.{part-is, width-most}
-use Rattle.one_segment.proofs.Known.{clean-stands, M-inside, M-long, M-small, M-syndrome, stands-answers, last-answers}
+use Rattle.one_segment.proofs.Known.{clean-stands, M-inside, M-long, M-syndrome, stands-answers, last-answers}
 use Rattle.one_segment.proofs.read_clean.Statement.{statement}
 use Rattle.one_segment.proofs.read_clean.Tie as tie
 

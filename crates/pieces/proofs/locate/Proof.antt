@@ -1,6 +1,6 @@
-use mathlib.Core.Path.{_≡_, sym, _∙_}
+use mathlib.Core.Path.{sym, _∙_}
 use mathlib.Core.Bool.{false}
-use Prim.Native.Nat.{ℕ, _-_, _*_, _/_}
+use Prim.Native.Nat.{_-_, _*_, _/_}
 use native.Mathlib.Omega.{arith}
 use lib.ListN.{length}
 use lib.Seq.{length-take-le}
@@ -11,12 +11,6 @@ use Rattle.pieces.proofs.Placing.{outside-is, located-at}
 use borrow.Author.Needs.{needs}
 use Rattle.pieces.proofs.locate.Statement.{statement}
 use Rattle.pieces.proofs.locate.Tie as tie
-use Rattle.pieces.proofs.locate.Reads as reads
-use Rattle.pieces.proofs.locate.Lts as lts
-use Rattle.received.proofs.received_test.Reads as received-test-reads
-use Rattle.equal_segments.proofs.span_of.Reads as span-of-reads
-use Rattle.refusal.proofs.outside.Reads as outside-reads
-use Rattle.symbols.proofs.decode.Reads as decode-reads
 
 received-test-requires : tie.Need-received-test-requires
 received-test-requires c κs = search needs

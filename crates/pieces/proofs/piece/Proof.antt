@@ -1,14 +1,9 @@
-use mathlib.Core.Path.{_≡_, refl, sym, _∙_}
+use mathlib.Core.Path.{refl, sym, _∙_}
 use Rattle.code.specs.ReadCall.{pieceTest}
 use Rattle.pieces.proofs.Placing.{refused-located, placed}
 use borrow.Author.Needs.{needs}
 use Rattle.pieces.proofs.piece.Statement.{statement}
 use Rattle.pieces.proofs.piece.Tie as tie
-use Rattle.pieces.proofs.piece.Reads as reads
-use Rattle.pieces.proofs.piece.Lts as lts
-use Rattle.pieces.proofs.locate.Reads as locate-reads
-use Rattle.refusal.proofs.number_of.Reads as number-of-reads
-use Rattle.refusal.proofs.place_of.Reads as place-of-reads
 
 locate-requires : tie.Need-locate-requires
 locate-requires c κs = search needs

@@ -1,6 +1,5 @@
-use mathlib.Core.Path.{_≡_, refl, sym, _∙_}
+use mathlib.Core.Path.{refl, sym, _∙_}
 use mathlib.Core.Bool.{false}
-use Prim.Native.Nat.{ℕ, _*_, _/_}
 use native.Mathlib.Omega.{arith}
 use lib.ListN.{length}
 use lib.Seq.{length-take-le}
@@ -11,12 +10,6 @@ use Rattle.reader.proofs.Calls.{short-is, room, counts-are, message-put
 use borrow.Author.Needs.{needs}
 use Rattle.reader.proofs.read.Statement.{statement}
 use Rattle.reader.proofs.read.Tie as tie
-use Rattle.reader.proofs.read.Reads as reads
-use Rattle.reader.proofs.read.Lts as lts
-use Rattle.received.proofs.received_test.Reads as received-test-reads
-use Rattle.received.proofs.short_buffers.Reads as short-buffers-reads
-use Rattle.equal_segments.proofs.read_symbols.Reads as read-symbols-reads
-use Rattle.symbols.proofs.decode.Reads as decode-reads
 
 received-test-requires : tie.Need-received-test-requires
 received-test-requires c κs = search needs

@@ -1,10 +1,8 @@
 use mathlib.Core.Path.{_≡_, subst}
-use mathlib.Core.Bool.{true}
 use Prim.Native.Nat.{ℕ}
 use native.Mathlib.Omega.{arith}
 use borrow.Author.Needs.{needs}
-use lib.ListN.{length, drop}
-use Rattle.code.specs.Reading.{clean}
+use lib.ListN.{length}
 use Rattle.next.specs.Steps.{Step, stepOf}
 use Rattle.next.specs.Nexts.{IsNext}
 use Rattle.reading.proofs.Walking.{part-put, part-length}

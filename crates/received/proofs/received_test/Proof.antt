@@ -1,4 +1,4 @@
-use mathlib.Core.Path.{_≡_, sym, _∙_}
+use mathlib.Core.Path.{sym, _∙_}
 use mathlib.Core.Bool.{false}
 use Rattle.code.specs.declared.Refusal.the-variants.{Overlong}
 use Rattle.code.specs.declared.Checked.the-variants.{Fine}
@@ -10,9 +10,6 @@ use borrow.Author.Tests.{lt-ltb}
 use borrow.Author.Needs.{needs}
 use Rattle.received.proofs.received_test.Statement.{statement}
 use Rattle.received.proofs.received_test.Tie as tie
-use Rattle.received.proofs.received_test.Reads as reads
-use Rattle.received.proofs.received_test.Lts as lts
-use Rattle.refusal.proofs.order_test.Reads as order-test-reads
 
 order-test-requires : tie.Need-order-test-requires
 order-test-requires c κs = search needs

@@ -2,9 +2,6 @@ use borrow.Author.Tests.{lt-ltb, le-ltb}
 use borrow.Author.Needs.{needs}
 use Rattle.received.proofs.short_buffers.Statement.{statement}
 use Rattle.received.proofs.short_buffers.Tie as tie
-use Rattle.received.proofs.short_buffers.Reads as reads
-use Rattle.received.proofs.short_buffers.Lts as lts
-use Rattle.sheet.proofs.sheet_bytes.Reads as sheet-bytes-reads
 
 sheet-bytes-requires : tie.Need-sheet-bytes-requires
 sheet-bytes-requires c κs = search needs

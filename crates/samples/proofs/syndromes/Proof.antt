@@ -5,59 +5,45 @@ use borrow.Author.Needs.{needs}
 use Rattle.samples.proofs.syndromes.Statement.{statement}
 use Rattle.samples.proofs.syndromes.Tie as tie
 
--- src/main.rt:81:17
 sums-requires : tie.Need-sums-requires
 sums-requires c κs = search needs
 
--- src/main.rt:82:17
 syndromes-requires : tie.Need-syndromes-requires
 syndromes-requires c κs = (omega arith, omega arith, ap (λ (s : Summed). s .places) (c .sums .ensures))
 
--- src/main.rt:83:18
 slice-aggregate-word : tie.Need-slice-aggregate-word
 slice-aggregate-word c = search needs
 
--- src/main.rt:83:13
 word-requires : tie.Need-word-requires
 word-requires c κs = search needs
 
--- src/main.rt:84:13
 word-requires-2 : tie.Need-word-requires-2
 word-requires-2 c κs = search needs
 
--- src/main.rt:85:18
 slice-aggregate-word-2 : tie.Need-slice-aggregate-word-2
 slice-aggregate-word-2 c = search needs
 
--- src/main.rt:85:13
 word-requires-3 : tie.Need-word-requires-3
 word-requires-3 c κs = search needs
 
--- src/main.rt:86:13
 number-requires : tie.Need-number-requires
 number-requires c κs = search needs
 
--- src/main.rt:87:13
 number-requires-2 : tie.Need-number-requires-2
 number-requires-2 c κs = search needs
 
--- src/main.rt:88:18
 slice-aggregate-word-3 : tie.Need-slice-aggregate-word-3
 slice-aggregate-word-3 c = search needs
 
--- src/main.rt:88:13
 word-requires-4 : tie.Need-word-requires-4
 word-requires-4 c κs = search needs
 
--- src/main.rt:78:1
 returns : tie.Need-returns
 returns c = search needs
 
--- src/main.rt:78:1
 returns-2 : tie.Need-returns-2
 returns-2 c = search needs
 
--- src/main.rt:78:1
 returns-3 : tie.Need-returns-3
 returns-3 c = search needs
 

@@ -1,4 +1,4 @@
-use mathlib.Core.Path.{_≡_, refl, sym, _∙_}
+use mathlib.Core.Path.{refl, sym}
 use native.Mathlib.Omega.{arith}
 use Rattle.code.specs.Lists.{put-nothing}
 use Rattle.segment.proofs.Parts.{mark-true, mark-false, is-marker}

@@ -1,9 +1,6 @@
 use borrow.Author.Needs.{needs}
-use borrow.Author.Tests.{not-true, not-false}
 use native.Mathlib.Omega.{arith}
-use Prim.Native.Nat.{_+_, _≤_}
 use lib.ListN.{length}
-use Rattle.code.specs.Reading.{dataAt}
 use Rattle.standing.proofs.InPlace.{marker-seen, no-marker, marker-room}
 use Rattle.standing.proofs.marker_stands.Statement.{statement}
 use Rattle.standing.proofs.marker_stands.Tie as tie
