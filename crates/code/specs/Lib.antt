@@ -44,6 +44,7 @@ pub mod WithinLimits
 pub mod MessageLengths
 pub mod MessageBelow
 pub mod ReadCall
+pub mod ReadDemand
 pub mod ReadCallLaws
 pub mod Samples
 pub mod Runs

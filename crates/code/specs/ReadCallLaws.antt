@@ -9,9 +9,7 @@
 --   Kept, kept        what holds of the reading of such a strand
 --   length-sheet      the bytes of a reading's sheet
 --   length-bytes-of   the bytes of a reading
---   Given, Returned   what a call has to answer and leave in its buffers
---   Demand-3-call     demand 3 of a call
---   demand-3-holds    it holds of a call that answers and writes what is defined
+--   demand-3-holds    demand 3 holds of a call that answers and writes what is defined
 --   piece-inside      a piece lies inside the caller's letters
 --   piece-letters     its letters are those of the outcome's piece
 use mathlib.Core.Path.{_≡_, refl, sym, ap, _∙_}
@@ -44,6 +42,7 @@ use Rattle.code.specs.Demand3.{Lengths, done, more, Regains, demand-3}
 use Rattle.code.specs.WithinLimits.{readable}
 use Rattle.code.specs.MessageLengths.{length-messages}
 use Rattle.code.specs.ReadCall.{sheetBytes, foreignTest, overlong, receivedTest, shortBuffers, readTest, pieceTest, outcomesOf, countedOf, bytesOf, sheetFor, piecesOf, startOf, pieceLength, pieceOf}
+use Rattle.code.specs.ReadDemand.{Demand-3-call}
 
 -- Tests 1 to 4
 
@@ -170,36 +169,10 @@ length-bytes-of k b cs o =
     let q = length-messages false 0 (layoutOf k b) (legible cs) (legible cs) (equal-lengths (4 * b / k) k (p .least-length)) in
     length-bytes (messagesOf (outcomesOf k b cs)) ∙ omega (arith, q, layout-sum k b (p .multiple))
 
--- what a call that is not turned down answers and writes, where the strand keeps the conditions for the bytes bs
-pub record Given (k b : ℕ) (cs bs : List ℕ) (answer : Counted) (old out oldSheet sheet : List ℕ) : Type 0 where
-  pub clean : ℕ
-  pub corrected : ℕ
-  pub counts : answer ≡ N.Counts clean corrected 0
-  pub all-found : clean + corrected ≡ length (layoutOf k b)
-  pub message : out ≡ bs ++ drop b old
-  pub marks : sheet ≡ sheetFor k b cs ++ drop (sheetBytes (length (layoutOf k b))) oldSheet
-  pub none-lost : countOf 2 (marksOf (outcomesOf k b cs)) ≡ 0
-
--- what a call has to answer and leave in its buffers: short buffers alone turn it down
-pub record Returned (k b : ℕ) (cs bs : List ℕ) (answer : Counted) (old out oldSheet sheet : List ℕ) : Type 0 where
-  pub turned-down : shortBuffers k b (length old) (length oldSheet) ≡ true → (answer ≡ N.Refused ShortBuffer) × (out ≡ old) × (sheet ≡ oldSheet)
-  pub given : shortBuffers k b (length old) (length oldSheet) ≡ false → Given k b cs bs answer old out oldSheet sheet
-
--- demand 3 of a call for k and B with the letters cs: its answer, and both buffers before and after
-abbrev pub Demand-3-call : (k b : ℕ) (cs : List ℕ) (answer : Counted) (old out oldSheet sheet : List ℕ) → Type 0
-Demand-3-call k b cs answer old out oldSheet sheet =
-    (bs s : List ℕ)
-    → orderTest k b false Fine ≡ Fine
-    → length bs ≡ b
-    → Below 256 bs
-    → letters s ≡ cs
-    → OneEdit (cut (layoutOf k b) (symbols bs)) s
-    → Returned k b cs bs answer old out oldSheet sheet
-
--- it holds of a call that answers and writes what is defined
+-- demand 3 holds of a call that answers and writes what is defined
 pub demand-3-holds : (k b : ℕ) (cs : List ℕ) (answer : Counted) (old out oldSheet sheet : List ℕ) → answer ≡ countedOf (readTest k b cs (length old) (length oldSheet)) (marksOf (outcomesOf k b cs)) → out ≡ bufferOf (readTest k b cs (length old) (length oldSheet)) (bytesOf k b cs) old → sheet ≡ bufferOf (readTest k b cs (length old) (length oldSheet)) (sheetFor k b cs) oldSheet → Demand-3-call k b cs answer old out oldSheet sheet
-demand-3-holds k b cs answer old out oldSheet sheet ea eo es bs s o size small same e =
-    let t = kept k b cs bs s (length old) (length oldSheet) o size small same e in
+demand-3-holds k b cs answer old out oldSheet sheet ea eo es bs s sent =
+    let t = kept k b cs bs s (length old) (length oldSheet) (sent .order) (sent .size) (sent .are-bytes) (sent .received) (sent .one-edit) in
     let marks = marksOf (outcomesOf k b cs) in
     let counted : (c : Checked) → readTest k b cs (length old) (length oldSheet) ≡ c → answer ≡ countedOf c marks = λ c q. ea ∙ ap (λ (d : Checked). countedOf d marks) q in
     let wrote : (c : Checked) → readTest k b cs (length old) (length oldSheet) ≡ c → out ≡ bufferOf c (bytesOf k b cs) old = λ c q. eo ∙ ap (λ (d : Checked). bufferOf d (bytesOf k b cs) old) q in
@@ -213,7 +186,7 @@ demand-3-holds k b cs answer old out oldSheet sheet ea eo es bs s o size small s
             corrected = countOf 1 marks;
             counts = counted Fine q ∙ ap (N.Counts (countOf 0 marks) (countOf 1 marks)) (t .none-lost);
             all-found = t .all-found;
-            message = wrote Fine q ∙ rw (t .message, size);
+            message = wrote Fine q ∙ rw (t .message, sent .size);
             marks = marked Fine q ∙ rw (length-sheet k b cs);
             none-lost = t .none-lost;
           };

@@ -8,7 +8,7 @@ ghost use Rattle.code.specs.Refusals.{numberOf, placeOf, testNumber, testPlace}
 ghost use Rattle.code.specs.Writing.{strandOf, writeTest, wroteOf, bufferOf};
 ghost use Rattle.code.specs.Strands.{marksOf};
 ghost use Rattle.code.specs.ReadCall.{readTest, pieceTest, outcomesOf, countedOf, bytesOf, sheetFor, startOf, pieceLength, pieceOf, partOf, locatedOf};
-ghost use Rattle.code.specs.ReadCallLaws.{Demand-3-call};
+ghost use Rattle.code.specs.ReadDemand.{Demand-3-call};
 ghost use Rattle.code.specs.Label.{labelBytes, labelTest, orderOf};
 ghost use Rattle.code.specs.Tallies.{tallied};
 use code::Checked;

@@ -10,15 +10,16 @@ use Rattle.code.specs.declared.Counted.the-variants as N
 use Rattle.code.specs.Strands.{marksOf}
 use Rattle.code.specs.Writing.{bufferOf}
 use Rattle.code.specs.ReadCall.{readTest, outcomesOf, countedOf, bytesOf, sheetFor}
-use Rattle.code.specs.ReadCallLaws.{Demand-3-call, demand-3-holds}
+use Rattle.code.specs.ReadCallLaws.{demand-3-holds}
+use Rattle.code.specs.ReadDemand.{Demand-3-call}
 use Rattle.dnalm_c.specs.declared.Counts.{Counts}
 use Rattle.dnalm_c.specs.Demand3.{Demand-3-counts}
 use Rattle.dnalm_c.proofs.Numbers.{fromCounted}
 
 -- a call whose numbers are those of an answer that keeps demand 3
 from-call : (k b : ℕ) (cs : List ℕ) (w : Counted) (answer : Counts) (old out oldSheet sheet : List ℕ) → answer ≡ fromCounted w → Demand-3-call k b cs w old out oldSheet sheet → Demand-3-counts k b cs answer old out oldSheet sheet
-from-call k b cs w answer old out oldSheet sheet ea d bs s o size small same e =
-    let r = d bs s o size small same e in
+from-call k b cs w answer old out oldSheet sheet ea d bs s sent =
+    let r = d bs s sent in
     record {
       turned-down = λ h.
           let t = r .turned-down h in

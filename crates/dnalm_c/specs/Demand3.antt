@@ -6,15 +6,12 @@ use mathlib.Core.Bool.{true, false}
 use mathlib.Core.List.{List, _++_}
 use Prim.Native.Nat.{ℕ, _+_}
 use lib.ListN.{length, drop}
-use Rattle.code.specs.declared.Checked.the-variants.{Fine}
-use Rattle.code.specs.Symbols.{Below, letters, symbols}
-use Rattle.code.specs.Layout.{cut, layoutOf}
-use Rattle.code.specs.Refusals.{orderTest}
-use Rattle.code.specs.Conditions.{OneEdit}
+use Rattle.code.specs.Layout.{layoutOf}
 use Rattle.code.specs.ReadCall.{sheetBytes, shortBuffers, sheetFor}
+use Rattle.code.specs.ReadDemand.{Sent}
 use Rattle.dnalm_c.specs.declared.Counts.{Counts}
 
--- what a call that is taken answers and writes, where the letters keep the conditions for the bytes bs
+-- what a call that is taken answers and writes, where the letters carry the bytes bs
 pub record Given (k b : ℕ) (cs bs : List ℕ) (answer : Counts) (old out oldSheet sheet : List ℕ) : Type 0 where
   pub taken : answer .refusal ≡ 0
   pub none-lost : answer .lost ≡ 0
@@ -29,11 +26,4 @@ pub record Returned (k b : ℕ) (cs bs : List ℕ) (answer : Counts) (old out ol
 
 -- demand 3 of a call for k and B with the letters cs: its answer, and both buffers before and after
 abbrev pub Demand-3-counts : (k b : ℕ) (cs : List ℕ) (answer : Counts) (old out oldSheet sheet : List ℕ) → Type 0
-Demand-3-counts k b cs answer old out oldSheet sheet =
-    (bs s : List ℕ)
-    → orderTest k b false Fine ≡ Fine
-    → length bs ≡ b
-    → Below 256 bs
-    → letters s ≡ cs
-    → OneEdit (cut (layoutOf k b) (symbols bs)) s
-    → Returned k b cs bs answer old out oldSheet sheet
+Demand-3-counts k b cs answer old out oldSheet sheet = (bs s : List ℕ) → Sent k b cs bs s → Returned k b cs bs answer old out oldSheet sheet
