@@ -1,10 +1,8 @@
-//! Letters written and read a second: the library against two rivals.
+//! Letters written and read a second: the library against the tuned rival.
 
 #[allow(dead_code)]
 #[path = "../tests/outside/ffi.rs"]
 mod ffi;
-#[forbid(unsafe_code)]
-mod plain;
 #[allow(dead_code)]
 #[path = "../tests/outside/strands.rs"]
 mod strands;
@@ -25,16 +23,10 @@ const ROUND_LETTERS: usize = 100_000;
 #[derive(Clone, Copy, PartialEq, Eq)]
 enum Side {
     Library,
-    /// plain.rs.
-    Plain,
-    /// tuned.rs.
-    Blocks,
+    Tuned,
 }
 
-const SIDES: [Side; 3] = [Side::Library, Side::Plain, Side::Blocks];
-
 /// The lent buffers of one side.
-#[derive(PartialEq, Eq)]
 struct Room {
     strand: [u8; 2048],
     message: [u8; 128],
@@ -61,8 +53,7 @@ fn write_one(side: Side, k: u32, b: u32, message: &[u8], room: &mut Room) -> usi
             let got = unsafe { ffi::dnalm_write(k, b, message_ptr, message_len, out_ptr, out_len) };
             got.letters
         }
-        Side::Plain => plain::write(k, b, message, out).unwrap_or(0),
-        Side::Blocks => tuned::write(k, b, message, out).unwrap_or(0),
+        Side::Tuned => tuned::write(k, b, message, out).unwrap_or(0),
     }
 }
 
@@ -85,8 +76,7 @@ fn read_one(side: Side, k: u32, b: u32, letters: &[u8], room: &mut Room) -> [u32
             };
             [got.clean, got.corrected, got.lost]
         }
-        Side::Plain => plain::read(k, b, letters, message, sheet).unwrap_or([0; 3]),
-        Side::Blocks => tuned::read(k, b, letters, message, sheet).unwrap_or([0; 3]),
+        Side::Tuned => tuned::read(k, b, letters, message, sheet).unwrap_or([0; 3]),
     }
 }
 
@@ -112,7 +102,7 @@ fn set(job: Job, k: u32, b: u32) -> Set {
     for _ in 0..STRANDS {
         let message = rng.bytes(b as usize);
         let mut room = Room::new();
-        let letters = write_one(Side::Blocks, k, b, &message, &mut room);
+        let letters = write_one(Side::Tuned, k, b, &message, &mut room);
         let strand = &room.strand[..letters];
         all.push(match job {
             Job::Write | Job::Untouched => strand.to_vec(),
@@ -157,71 +147,67 @@ fn pass(side: Side, job: Job, set: &Set, room: &mut Room) {
     black_box(room);
 }
 
-/// All sides give the same answers on the set.
+/// Both sides give the same answers on the set.
 fn agree(job: Job, set: &Set) {
-    let mut rooms = SIDES.map(|_| Room::new());
+    let (mut one, mut other) = (Room::new(), Room::new());
     for (message, strand) in set.messages.iter().zip(&set.strands) {
-        let mut answers = [[0; 3]; 3];
-        for (which, room) in rooms.iter_mut().enumerate() {
-            answers[which] = if job == Job::Write {
-                let letters = write_one(SIDES[which], set.k, set.b, message, room);
-                [letters as u32, 0, 0]
-            } else {
-                read_one(SIDES[which], set.k, set.b, strand, room)
-            };
-        }
-        let [library, plain, blocks] = &rooms;
-        if answers != [answers[0]; 3] || plain != library || blocks != library {
+        let same = if job == Job::Write {
+            write_one(Side::Library, set.k, set.b, message, &mut one)
+                == write_one(Side::Tuned, set.k, set.b, message, &mut other)
+        } else {
+            read_one(Side::Library, set.k, set.b, strand, &mut one)
+                == read_one(Side::Tuned, set.k, set.b, strand, &mut other)
+        };
+        if !same
+            || one.strand != other.strand
+            || one.message != other.message
+            || one.sheet != other.sheet
+        {
             println!("disagreement: k {} B {}", set.k, set.b);
             exit(1);
         }
     }
 }
 
-/// What was measured of the three sides.
+/// What was measured of both sides.
 struct Measured {
     /// Letters a second in the best round, in millions.
-    best: [f64; 3],
-    /// The library's speed by that of each side, the median over the rounds.
-    ratios: [f64; 3],
+    best: [f64; 2],
+    /// The median of the ratios of neighbouring rounds.
+    ratio: f64,
 }
 
 fn measure(job: Job, set: &Set) -> Measured {
     let letters: usize = set.strands.iter().map(Vec::len).sum();
     let passes = ROUND_LETTERS / letters.max(1) + 1;
     let mut room = Room::new();
-    let mut best = [0f64; 3];
-    let mut ratios = [(); 3].map(|_| Vec::new());
+    let sides = [Side::Library, Side::Tuned];
+    let mut best = [0f64; 2];
+    let mut ratios = Vec::new();
     for round in 0..ROUNDS {
-        let mut speeds = [0f64; 3];
-        for turn in 0..3 {
-            let which = (turn + round) % 3;
+        let mut speeds = [0f64; 2];
+        for turn in 0..2 {
+            let which = (turn + round) % 2;
             let start = Instant::now();
             for _ in 0..passes {
-                pass(SIDES[which], job, set, &mut room);
+                pass(sides[which], job, set, &mut room);
             }
             let seconds = start.elapsed().as_secs_f64();
             speeds[which] = (letters * passes) as f64 / seconds / 1e6;
             best[which] = best[which].max(speeds[which]);
         }
-        for (ratios, speed) in ratios.iter_mut().zip(speeds) {
-            ratios.push(speeds[0] / speed);
-        }
+        ratios.push(speeds[0] / speeds[1]);
     }
-    let ratios = ratios.map(|mut ratios| {
-        ratios.sort_by(f64::total_cmp);
-        ratios[ROUNDS / 2]
-    });
-    Measured { best, ratios }
+    ratios.sort_by(f64::total_cmp);
+    Measured {
+        best,
+        ratio: ratios[ROUNDS / 2],
+    }
 }
 
 fn table() {
-    println!("million letters a second, best of {ROUNDS} rounds; ratio library/rival, median");
-    println!("plain: safe Rust, a byte for each symbol; blocks: unsafe, eight symbols to a word");
-    println!(
-        "{:<28} {:>9} {:>9} {:>7} {:>9} {:>7}",
-        "", "library", "plain", "ratio", "blocks", "ratio"
-    );
+    println!("million letters a second, best of {ROUNDS} rounds; ratio library/tuned, median");
+    println!("{:<28} {:>9} {:>9} {:>7}", "", "library", "tuned", "ratio");
     for (k, b) in [(16, 32), (64, 128), (8, 128), (2, 1)] {
         for (name, job) in [
             ("write", Job::Write),
@@ -231,26 +217,16 @@ fn table() {
         ] {
             let set = set(job, k, b);
             agree(job, &set);
-            let Measured { best, ratios } = measure(job, &set);
+            let measured = measure(job, &set);
             let row = format!("k={k} B={b} {name}");
-            print!("{row:<28} {:>9.1}", best[0]);
-            for (speed, ratio) in best.iter().zip(ratios).skip(1) {
-                print!(" {speed:>9.1} {ratio:>7.2}");
-            }
-            println!();
+            let ([library, rival], ratio) = (measured.best, measured.ratio);
+            println!("{row:<28} {library:>9.1} {rival:>9.1} {ratio:>7.2}");
         }
     }
 }
 
 /// N readings of a fixed set of strands with k=16, for counting instructions.
-fn work(name: &str, b: u32, count: usize) {
-    let side = match name {
-        "library" => Some(Side::Library),
-        "plain" => Some(Side::Plain),
-        "blocks" => Some(Side::Blocks),
-        "none" => None,
-        _ => usage(),
-    };
+fn work(side: &str, b: u32, count: usize) {
     let k = 16;
     let mut strands = Vec::new();
     for job in [Job::Untouched, Job::OneEdit, Job::Damaged] {
@@ -260,15 +236,18 @@ fn work(name: &str, b: u32, count: usize) {
     let mut letters = 0;
     for strand in strands.iter().cycle().take(count) {
         letters += strand.len();
-        if let Some(side) = side {
-            black_box(read_one(side, k, b, black_box(strand), &mut room));
-        }
+        match side {
+            "library" => black_box(read_one(Side::Library, k, b, black_box(strand), &mut room)),
+            "tuned" => black_box(read_one(Side::Tuned, k, b, black_box(strand), &mut room)),
+            "none" => [0; 3],
+            _ => usage(),
+        };
     }
-    println!("{name} k={k} B={b}: {count} readings, {letters} letters");
+    println!("{side} k={k} B={b}: {count} readings, {letters} letters");
 }
 
 fn usage() -> ! {
-    eprintln!("usage: bench | bench work library|plain|blocks|none B N");
+    eprintln!("usage: bench | bench work library|tuned|none B N");
     exit(2);
 }
 
@@ -277,8 +256,8 @@ fn main() {
     let arguments: Vec<&str> = arguments.iter().map(String::as_str).collect();
     match arguments[..] {
         [] => table(),
-        ["work", name, b, count] => match (b.parse(), count.parse()) {
-            (Ok(b @ (8 | 32 | 128)), Ok(count)) => work(name, b, count),
+        ["work", side, b, count] => match (b.parse(), count.parse()) {
+            (Ok(b @ (8 | 32 | 128)), Ok(count)) => work(side, b, count),
             _ => usage(),
         },
         _ => usage(),
