@@ -25,17 +25,11 @@ masked m w n e h = let p : m ≡ 2 ^ w = e ∙ (shl-exact {a = 1} 1 w 64 (omega 
 masked-both : (m : List ℕ) (s : Layers) (w : ℕ) → s ≡ both sumOfPlaces m → 2 * length m ≡ (1 * 2 ^ w) % 2 ^ 64 → w ≤ 17 → record { high = bitAnd (s .high) (2 * length m - 1); low = bitAnd (s .low) (2 * length m - 1) } ≡ both syndrome m
 masked-both m s w e p h = rw (masked (2 * length m) w (s .high) p h, masked (2 * length m) w (s .low) p h) (remainders m s e)
 
-mul-m : tie.Need-mul-m
-mul-m c = search needs
-
 width-of-requires : tie.Need-width-of-requires
 width-of-requires c κs = search needs
 
 shl-if1 : tie.Need-shl-if1
 shl-if1 c = omega (arith, c .width-of .ensures, width-least (length (c .before .before .args .symbols .now)) .least 17 (omega arith))
-
-sub-t8 : tie.Need-sub-t8
-sub-t8 c = search needs
 
 sub-t10 : tie.Need-sub-t10
 sub-t10 c = search needs
@@ -59,4 +53,4 @@ returns-2 c = remainders (c .before .before .before .before .before .args .symbo
 pub syndromes-spec : {M : Type 1} → statement M
 syndromes-spec =
     tie.close
-    (tie.spec mul-m width-of-requires shl-if1 sub-t8 sub-t10 returns rem-t5 rem-t6 returns-2)
+    (tie.spec (λ c. search needs) width-of-requires shl-if1 (λ c. search needs) sub-t10 returns rem-t5 rem-t6 returns-2)
