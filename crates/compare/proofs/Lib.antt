@@ -1,2 +1,3 @@
 pub mod Standing
 pub mod Moving
+pub mod Eight

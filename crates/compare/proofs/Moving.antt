@@ -1,66 +1,45 @@
--- A place moved by an offset: the table's rule, and the signed sum.
-use mathlib.Core.Path.{_≡_, refl, ap, _∙_}
-use mathlib.Core.Bool.{Bool, true, false, cond}
-use mathlib.Core.List.{List, map}
-use Prim.Native.Nat.{ℕ, suc, _+_, _-_, _/_, _%_, _≤_, _<_}
+-- A place moved by an offset: the signed sum and difference.
+use mathlib.Core.Path.{_≡_, ap, _∙_}
+use Prim.Native.Nat.{ℕ, zero, suc, _+_, _-_, _/_, _%_, _≤_, _<_}
 use native.Mathlib.Omega.{arith}
-use borrow.Author.Tests.{le-ltb, eqb-false}
-use lib.Dec.{T, eqb}
-use lib.IntN.{ℤ, pos, negsuc, _+ℤ_, natAbs}
-use lib.ListN.{getD, List·getD-map}
-use lib.Signed.{mag, nonNeg}
+use borrow.Author.Tests.{eq-eqb, ne-eqb, le-ltb}
+use lib.Dec.{T}
+use lib.IntN.{ℤ, pos, _+ℤ_, _-ℤ_, natAbs}
+use lib.Signed.{nonNeg}
 use mir.Syntax.{w64}
 use mir.Val.{Fits, SFits, toZ, ofZ}
 use mir.Facts.{toZ-ofZ, toZ-pos}
-use Rattle.code.specs.Lists.{tabulate, tabulate-at}
 use Rattle.compare.specs.Offsets.{triedAt}
 use Rattle.compare.specs.OffsetsLaws.{tried-small}
 
--- the i-th of the numbers 0, −1, +1, −2, +2, ..; `negsuc n` is −(n + 1)
-abbrev offsetOf : ℕ → ℤ
-offsetOf i = cond (eqb (i % 2) 0) (pos (i / 2)) (negsuc (i / 2))
+difference : (n h : ℕ) → h ≤ n → pos n -ℤ pos h ≡ pos (n - h)
+difference n zero le = let e : n + 0 ≡ n - 0 = omega arith in ap pos e
+difference n (suc h) le = rw (le-ltb n (suc h) le)
 
--- the table of the code
-abbrev order : List ℤ
-order = map offsetOf (tabulate (λ (i : ℕ). i) 0 17)
+module _ (n i : ℕ) (given : (i < 17) × ((i + 1) / 2 ≤ n) × (n < 65536)) where
+  -- an odd offset is early, an even one late
 
-order-is : (i : ℕ) → i < 17 → getD order i (pos 0) ≡ offsetOf i
-order-is i h =
-    let e : i + 0 ≡ i = omega arith in
-    List·getD-map offsetOf (tabulate (λ (j : ℕ). j) 0 17) i 0 ∙ ap offsetOf (tabulate-at (λ (j : ℕ). j) 17 0 i h ∙ e)
+  pub early-place : i % 2 ≡ 1 → toZ w64 n -ℤ toZ w64 ((i + 1) / 2) ≡ pos (triedAt n i)
+  early-place odd =
+      rw (toZ-pos w64 {n = n} (omega arith), toZ-pos w64 {n = (i + 1) / 2} (omega arith), ne-eqb (i % 2) 0 (λ e. omega arith))
+      (difference n ((i + 1) / 2) (omega arith))
 
-offset-small : (i : ℕ) → i < 17 → mag (offsetOf i) < 9
-offset-small i h = go (eqb (i % 2) 0)
-  where
-    go : (b : Bool) → mag (cond b (pos (i / 2)) (negsuc (i / 2))) < 9
-    go true = omega arith
-    go false = omega arith
+  pub late-place : (i % 2 ≡ 1 → ⊥) → toZ w64 n +ℤ toZ w64 ((i + 1) / 2) ≡ pos (triedAt n i)
+  late-place even =
+      let e : n + (i + 1) / 2 ≡ n + i / 2 = omega arith in
+      rw (toZ-pos w64 {n = n} (omega arith), toZ-pos w64 {n = (i + 1) / 2} (omega arith), eq-eqb (i % 2) 0 (omega arith))
+      (ap pos e)
 
-module _ (n i : ℕ) (few : i < 17) (inside : (i + 1) / 2 ≤ n) (small : n < 65536) where
-  plain : pos n +ℤ offsetOf i ≡ pos (triedAt n i)
-  plain = go (eqb (i % 2) 0) refl
-    where
-      go : (b : Bool) → eqb (i % 2) 0 ≡ b → pos n +ℤ cond b (pos (i / 2)) (negsuc (i / 2)) ≡ pos (cond b (n + i / 2) (n - (i + 1) / 2))
-      go true e = refl
-      go false e =
-          let o = eqb-false (i % 2) 0 e in
-          let q : suc (i / 2) ≡ (i + 1) / 2 = omega arith in
-          rw (q, le-ltb n ((i + 1) / 2) inside)
+  -- a signed number that is the moved place, as the machine has it
+  module _ (z : ℤ) (e : z ≡ pos (triedAt n i)) where
+    pub place-fits : SFits w64 z
+    place-fits = rw e (record { sfits = omega (arith, tried-small n i (given .0)) })
 
-  -- the sum as the machine has it
-  sum : toZ w64 n +ℤ toZ w64 (ofZ w64 (getD order i (pos 0))) ≡ pos (triedAt n i)
-  sum =
-      rw (order-is i few, toZ-ofZ {w = w64} {z = offsetOf i} (record { sfits = omega (arith, offset-small i few) }), toZ-pos w64 {n = n} (omega arith))
-      plain
+    place-back : toZ w64 (ofZ w64 z) ≡ pos (triedAt n i)
+    place-back = toZ-ofZ {w = w64} place-fits ∙ e
 
-  pub sum-fits : SFits w64 (toZ w64 n +ℤ toZ w64 (ofZ w64 (getD order i (pos 0))))
-  sum-fits = rw sum (record { sfits = omega (arith, tried-small n i few) })
+    pub place-unsigned : T (nonNeg (toZ w64 (ofZ w64 z))) × Fits w64 (natAbs (toZ w64 (ofZ w64 z)))
+    place-unsigned = rw place-back (tt, record { fits = omega (arith, tried-small n i (given .0)) })
 
-  sum-is : toZ w64 (ofZ w64 (toZ w64 n +ℤ toZ w64 (ofZ w64 (getD order i (pos 0))))) ≡ pos (triedAt n i)
-  sum-is = toZ-ofZ {w = w64} sum-fits ∙ sum
-
-  pub sum-place : T (nonNeg (toZ w64 (ofZ w64 (toZ w64 n +ℤ toZ w64 (ofZ w64 (getD order i (pos 0))))))) × Fits w64 (natAbs (toZ w64 (ofZ w64 (toZ w64 n +ℤ toZ w64 (ofZ w64 (getD order i (pos 0)))))))
-  sum-place = rw sum-is (tt, record { fits = omega (arith, tried-small n i few) })
-
-  pub sum-moved : natAbs (toZ w64 (ofZ w64 (toZ w64 n +ℤ toZ w64 (ofZ w64 (getD order i (pos 0)))))) ≡ triedAt n i
-  sum-moved = rw sum-is
+    pub place-is : natAbs (toZ w64 (ofZ w64 z)) ≡ triedAt n i
+    place-is = rw place-back

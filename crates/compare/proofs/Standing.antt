@@ -1,16 +1,19 @@
 -- Tests at a place, by the letters there.
-use mathlib.Core.Path.{_≡_, refl}
+use mathlib.Core.Path.{_≡_, refl, sym, ap, _∙_}
 use mathlib.Core.Bool.{Bool, true, false, _&&_}
 use mathlib.Core.List.{List, [], _∷_, append-nil}
-use Prim.Native.Nat.{ℕ, suc, _+_, _-_, _≤_, _<_}
+use Prim.Native.Nat.{ℕ, zero, suc, _+_, _-_, _≤_, _<_}
 use native.Mathlib.Numerals.{add-one}
 use native.Mathlib.Omega.{arith}
 use borrow.Author.Tests.{eq-eqb, ne-eqb}
 use lib.Dec.{eqb}
-use lib.ListN.{length, getD, drop, length-drop, drop-of-length-le}
-use lib.Seq.{drop-cons}
+use lib.ListN.{length, getD, take, drop, length-drop, drop-of-length-le}
+use lib.Seq.{drop-cons, drop-drop, take-append-le}
 use Rattle.code.specs.Reading.{starts, twoEqual, threeEqual}
-use Rattle.code.specs.ReadingLaws.{starts-self, starts-is}
+use Rattle.code.specs.ReadingLaws.{starts-self, starts-is, starts-split}
+use Rattle.code.specs.Symbols.{Below}
+use Rattle.compare.specs.Words.{wordOf}
+use Rattle.compare.specs.WordsLaws.{word-place}
 
 and-true : (a : Bool) → (a && true) ≡ a
 and-true true = refl
@@ -40,6 +43,24 @@ unfolding starts
 starts-short [] l h = absurd (omega arith)
 starts-short (x ∷ b) [] h = refl
 starts-short (x ∷ b) (y ∷ l) h = and-false (eqb x y) (starts b l) (starts-short b l (omega arith))
+
+-- a block goes on behind a front that both lists have, and stands nowhere else
+
+front-turn : (n : ℕ) (b l : List ℕ) → take n b ≡ take n l → starts b l ≡ starts (drop n b) (drop n l)
+unfolding starts
+front-turn zero b l e = refl
+front-turn (suc n) [] l e = refl
+front-turn (suc n) (x ∷ b) [] e = cc
+front-turn (suc n) (x ∷ b) (y ∷ l) e =
+    let p : x ≡ y = cc in
+    rw (eq-eqb x y p) (front-turn n b l cc)
+
+front-stop : (n : ℕ) (b l : List ℕ) → n ≤ length b → (take n b ≡ take n l → ⊥) → starts b l ≡ false
+front-stop n b l h q = go (starts b l) refl
+  where
+    go : (t : Bool) → starts b l ≡ t → t ≡ false
+    go false e = refl
+    go true e = absurd (q (sym (ap (take n) (starts-split b l e) ∙ take-append-le n b (drop (length b) l) h)))
 
 module _ (s : List ℕ) (at : ℕ) where
   pub one-inside : (x : ℕ) → at < length s → starts (x ∷ []) (drop at s) ≡ eqb x (getD s at 0)
@@ -90,6 +111,17 @@ module _ (s : List ℕ) (at : ℕ) where
       pub block-stop : (getD b j 0 ≡ getD s (at + j) 0 → ⊥) → starts (drop j b) (drop (at + j) s) ≡ false
       unfolding starts
       block-stop q = rw (drop-cons b j 0 inside, drop-cons s (at + j) 0 inside′, ne-eqb (getD b j 0) (getD s (at + j) 0) q)
+
+    -- eight letters at once
+    module _ (j : ℕ) (small : Below 256 b) (small′ : Below 256 s) (inside : j + 8 ≤ length b) (inside′ : at + j + 8 ≤ length s) where
+      pub words-turn : wordOf (take 8 (drop j b)) ≡ wordOf (take 8 (drop (at + j) s)) → starts (drop j b) (drop (at + j) s) ≡ starts (drop (j + 8) b) (drop (at + (j + 8)) s)
+      words-turn q =
+          let e : at + (j + 8) ≡ at + j + 8 = omega arith in
+          rw (e, ← drop-drop 8 j b, ← drop-drop 8 (at + j) s)
+          (front-turn 8 (drop j b) (drop (at + j) s) (word-place 8 b s j (at + j) inside inside′ small small′ q))
+
+      pub words-stop : (wordOf (take 8 (drop j b)) ≡ wordOf (take 8 (drop (at + j) s)) → ⊥) → starts (drop j b) (drop (at + j) s) ≡ false
+      words-stop q = front-stop 8 (drop j b) (drop (at + j) s) (simp length-drop (omega arith)) (λ e. q (ap wordOf e))
 
     pub block-end : (j : ℕ) (l : List ℕ) → length b ≤ j → starts (drop j b) l ≡ true
     unfolding starts

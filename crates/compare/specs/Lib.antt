@@ -1,2 +1,4 @@
 pub mod Offsets
 pub mod OffsetsLaws
+pub mod Words
+pub mod WordsLaws

@@ -1,3 +1,4 @@
-// What reading compares: tests at a place, and offsets of a place.
+// What reading compares: tests at a place, words of eight symbols, and offsets of a place.
 pub mod offsets;
 pub mod tests;
+pub mod words;

@@ -1,4 +1,5 @@
 // Tests at a place of the received symbols. A place past the end matches nothing.
+use crate::words::word_at;
 ghost use mathlib.Core.Path.{_≡_};
 ghost use mathlib.Core.List.{[], _∷_};
 ghost use Prim.Native.Nat.{_-_, _<_};
@@ -58,8 +59,15 @@ pub fn stands_at(block: &[u8], s: &[u8], at: usize) -> bool
     if left_from(s, at) < block.len() {
         return false;
     }
+    let n = block.len();
     let mut j = 0;
-    while j < block.len() {
+    while j + 8 <= n {
+        if word_at(block, j) != word_at(s, at + j) {
+            return false;
+        }
+        j += 8;
+    }
+    while j < n {
         if block[j] != s[at + j] {
             return false;
         }

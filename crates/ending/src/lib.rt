@@ -3,6 +3,7 @@ use message::shifted;
 use scan::Start;
 use scan::find_clean;
 use segment::size_of;
+use standing::data_at;
 use standing::syndrome_at;
 use tail::Tail;
 use tail::last_of;
@@ -24,16 +25,6 @@ pub struct End {
     pub clean: bool,
 }
 
-// D, from P.
-pub fn data_at(marked: bool) -> usize
-    ensures { λ r. ⌜ (r ≡ dataAt marked) × (r ≤ 2) ⌝ }
-{
-    if marked {
-        return 2;
-    }
-    0
-}
-
 // The place after a separator that was found moved by the j-th offset.
 fn behind_separator(p: usize, marked: bool, k: usize, j: usize) -> usize
     requires { ⌜ (j < 3) × (p < 16384) × (k < 16384) ⌝ }
@@ -45,7 +36,7 @@ fn behind_separator(p: usize, marked: bool, k: usize, j: usize) -> usize
 // Step 8: whether the symbols after the separator settle the end.
 fn settles(s: &[u8], p: usize, marked: bool, message: &[u8], tail: Tail, j: usize) -> bool
     requires { ⌜ IsTail (now message) tail ⌝ }
-    requires { ⌜ (p ≤ length (now s)) × (length (now s) ≤ 4096) × (2 ≤ length (now message)) × (length (now message) ≤ 4000) ⌝ }
+    requires { ⌜ (p ≤ length (now s)) × (length (now s) ≤ 4096) × (2 ≤ length (now message)) × (length (now message) ≤ 256) ⌝ }
     requires { ⌜ j ≡ shiftIndex (separatorAt (length (now message)) (drop (dataAt marked) (drop p (now s)))) ⌝ }
     ensures { λ r. ⌜ r ≡ settled (length (now (message .entry))) (drop (dataAt marked) (drop p (now (s .entry)))) (now (message .entry)) (separatorAt (length (now (message .entry))) (drop (dataAt marked) (drop p (now (s .entry))))) ⌝ }
 {
@@ -67,8 +58,8 @@ pub fn end_of(
 ) -> End
     requires { ⌜ Below 4 (now s) ⌝ }
     requires { ⌜ IsTail (now message) tail ⌝ }
-    requires { ⌜ (p ≤ length (now s)) × (length (now s) ≤ 4096) × (2 ≤ length (now message)) × (length (now message) ≤ 4000) ⌝ }
-    requires { ⌜ (next ≤ 4000) × (next ≡ 1 → ⊥) × (j ≡ shiftIndex (separatorAt (length (now message)) (drop (dataAt marked) (drop p (now s))))) ⌝ }
+    requires { ⌜ (p ≤ length (now s)) × (length (now s) ≤ 4096) × (2 ≤ length (now message)) × (length (now message) ≤ 256) ⌝ }
+    requires { ⌜ (next ≤ 256) × (next ≡ 1 → ⊥) × (j ≡ shiftIndex (separatorAt (length (now message)) (drop (dataAt marked) (drop p (now s))))) ⌝ }
     ensures { λ r. ⌜ r .start ≡ startAt p (endOf marked (length (now (message .entry))) (followers next) (drop p (now (s .entry))) (drop p (now (s .entry))) (now (message .entry))) ⌝ }
     ensures { λ r. ⌜ (r .clean ≡ true → CleanAt next (lastOf (now (message .entry))) (now (s .entry)) (r .start)) ⌝ }
 {

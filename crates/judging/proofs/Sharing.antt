@@ -2,14 +2,18 @@
 use mathlib.Core.Path.{_≡_, refl, sym, ap, _∙_}
 use mathlib.Core.Bool.{Bool, true, false, cond}
 use mathlib.Core.List.{List, [], _∷_}
-use Prim.Native.Nat.{ℕ, zero, suc, _+_, _-_, _≤_, _<_}
+use Prim.Native.Nat.{ℕ, zero, suc, _+_, _-_, min, _≤_, _<_}
+use native.Mathlib.Decide.{decLe}
 use native.Mathlib.Numerals.{add-one}
 use native.Mathlib.Omega.{arith}
 use borrow.Author.Tests.{eq-eqb, ne-eqb, eqb-true, eqb-false}
 use lib.Dec.{eqb}
-use lib.ListN.{length, getD, take, drop, set, drop-of-length-le}
-use lib.Seq.{drop-cons, getD-take}
+use lib.ListN.{length, getD, take, drop, set, length-drop, drop-of-length-le}
+use lib.Seq.{drop-cons, drop-drop, getD-take}
+use Rattle.code.specs.Symbols.{Below}
 use Rattle.code.specs.Repair.{leaveOut}
+use Rattle.compare.specs.Words.{wordOf}
+use Rattle.compare.specs.WordsLaws.{word-place}
 use Rattle.judging.specs.Judgement.{common, runStart}
 use Rattle.judging.proofs.Leaving.{leave-next}
 
@@ -25,7 +29,7 @@ module _ (w v : List ℕ) (i : ℕ) where
   unfolding common
   common-stop h k e = rw (drop-cons w i 0 h, drop-cons v i 0 k, ne-eqb (getD w i 0) (getD v i 0) e)
 
-  pub common-past : length w ≤ i → common (drop i w) (drop i v) ≡ 0
+  common-past : length w ≤ i → common (drop i w) (drop i v) ≡ 0
   unfolding common
   common-past h = rw (drop-of-length-le w h)
 
@@ -34,8 +38,32 @@ unfolding common
 common-nil [] = refl
 common-nil (x ∷ w) = refl
 
-pub common-past′ : (w v : List ℕ) (i : ℕ) → length v ≤ i → common (drop i w) (drop i v) ≡ 0
+common-past′ : (w v : List ℕ) (i : ℕ) → length v ≤ i → common (drop i w) (drop i v) ≡ 0
 common-past′ w v i h = rw (drop-of-length-le v h) (common-nil (drop i w))
+
+pub common-end : (w v : List ℕ) (i : ℕ) → min (length w) (length v) ≤ i → common (drop i w) (drop i v) ≡ 0
+common-end w v i h = go (decLe (length w) i)
+  where
+    go : Dec (length w ≤ i) → common (drop i w) (drop i v) ≡ 0
+    go (yes k) = common-past w v i k
+    go (no k) = common-past′ w v i (omega arith)
+
+-- compared by eight letters
+
+common-front : (n : ℕ) (w v : List ℕ) → n ≤ length w → take n w ≡ take n v → common w v ≡ n + common (drop n w) (drop n v)
+unfolding common
+common-front zero w v h e = omega arith
+common-front (suc n) [] v h e = absurd (omega arith)
+common-front (suc n) (x ∷ w) [] h e = cc
+common-front (suc n) (x ∷ w) (y ∷ v) h e =
+    let p : x ≡ y = cc in
+    let r = common-front n w v (omega arith) cc in
+    rw (eq-eqb x y p) (omega arith)
+
+pub common-words : (w v : List ℕ) (i : ℕ) → Below 256 w → Below 256 v → i + 8 ≤ length w → i + 8 ≤ length v → wordOf (take 8 (drop i w)) ≡ wordOf (take 8 (drop i v)) → common (drop i w) (drop i v) ≡ 8 + common (drop (i + 8) w) (drop (i + 8) v)
+common-words w v i s t h k q =
+    rw (← drop-drop 8 i w, ← drop-drop 8 i v)
+    (common-front 8 (drop i w) (drop i v) (simp length-drop (omega arith)) (word-place 8 w v i i h k s t q))
 
 -- the shared front is no longer than either list, and is the same in both
 pub record Shared (w v : List ℕ) (c : ℕ) : Type 0 where

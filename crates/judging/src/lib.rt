@@ -1,6 +1,7 @@
 // Step 9: a piece against the segment written anew.
 use code::Edit;
 use compare::tests::stands_at;
+use compare::words::word_at;
 ghost use mathlib.Core.Path.{_≡_};
 ghost use mathlib.Core.Bool.{cond};
 ghost use Prim.Native.Nat.{_+_, _-_, _<_, _≤_};
@@ -18,11 +19,18 @@ pub enum Judged {
 fn first_difference(w: &[u8], v: &[u8]) -> usize
     ensures { λ r. ⌜ r ≡ common (now (w .entry)) (now (v .entry)) ⌝ }
 {
+    let mut n = w.len();
+    if v.len() < n {
+        n = v.len();
+    }
     let mut i = 0;
-    while i < w.len() {
-        if v.len() <= i {
-            return i;
+    while i + 8 <= n {
+        if word_at(w, i) != word_at(v, i) {
+            break;
         }
+        i += 8;
+    }
+    while i < n {
         if w[i] != v[i] {
             return i;
         }

@@ -33,27 +33,30 @@ pub fn digit_of(symbol: u8, shift: u8) -> usize
     ((symbol >> shift) & 1) as usize
 }
 
-// The check, and the sum of places of each layer, formed by running sums from the last symbol to the first.
+// The check, and the sum of places of each layer.
 pub fn sums(symbols: &[u8]) -> Summed
-    requires { ⌜ length (now symbols) < 65536 ⌝ }
+    requires { ⌜ length (now symbols) ≤ 256 ⌝ }
     ensures { λ r. ⌜ r ≡ sumsOf (now (symbols .entry)) ⌝ }
 {
-    let mut i = symbols.len();
-    let mut high_ones: usize = 0;
-    let mut low_ones: usize = 0;
-    let mut high: usize = 0;
-    let mut low: usize = 0;
-    while 0 < i {
-        i -= 1;
+    let n = symbols.len();
+    let mut i = 0;
+    let mut total: u16 = 0;
+    let mut high: u16 = 0;
+    let mut low: u16 = 0;
+    while i < n {
         let x = symbols[i];
-        high_ones += digit_of(x, 1);
-        low_ones += digit_of(x, 0);
-        high += high_ones;
-        low += low_ones;
+        let place = i as u16 + 1;
+        total += x as u16;
+        high += digit_of(x, 1) as u16 * place;
+        low += digit_of(x, 0) as u16 * place;
+        i += 1;
     }
     Summed {
-        check: ((2 * high_ones + low_ones) % 4) as u8,
-        places: Layers { high, low },
+        check: (total % 4) as u8,
+        places: Layers {
+            high: high as usize,
+            low: low as usize,
+        },
     }
 }
 
@@ -107,16 +110,15 @@ pub fn numbers(symbols: &[u8]) -> Layers
     requires { ⌜ length (now symbols) ≤ 16 ⌝ }
     ensures { λ r. ⌜ r ≡ both number (now (symbols .entry)) ⌝ }
 {
-    let mut i = symbols.len();
-    let mut weight: usize = 1;
+    let n = symbols.len();
+    let mut i = 0;
     let mut high: usize = 0;
     let mut low: usize = 0;
-    while 0 < i {
-        i -= 1;
+    while i < n {
         let x = symbols[i];
-        high += digit_of(x, 1) * weight;
-        low += digit_of(x, 0) * weight;
-        weight *= 2;
+        high = 2 * high + digit_of(x, 1);
+        low = 2 * low + digit_of(x, 0);
+        i += 1;
     }
     Layers { high, low }
 }

@@ -28,7 +28,7 @@ pub record Front (l k : ℕ) (m d o : List ℕ) (n : ℕ) : Type 0 where
   pub spelled : letters (take n o) ++ drop n o ≡ strandOf (replicate l k) m ++ drop (extent false (replicate l k)) d
 
 module _ (n l k : ℕ) (h : l ≤ n) where
-  pub equal-lengths : 2 ≤ k → k ≤ 4096 → Lengths (take l (replicate n k))
+  pub equal-lengths : 2 ≤ k → k ≤ 256 → Lengths (take l (replicate n k))
   equal-lengths low high = rw (take-replicate l n k h) each
     where
       each : Lengths (replicate l k)

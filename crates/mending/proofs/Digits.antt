@@ -1,15 +1,22 @@
--- The bits of a mended word, place by place.
+-- The bits of a mended word, place by place, and a symbol of two words.
 use mathlib.Core.Path.{_≡_, refl, sym, ap, _∙_}
 use mathlib.Core.Bool.{Bool, true, false}
-use mathlib.Core.List.{List, [], _∷_, _++_}
-use Prim.Native.Nat.{ℕ, zero, suc, _+_, _-_, _*_, _≤_, _<_}
+use mathlib.Core.List.{[], _∷_}
+use Prim.Native.Nat.{ℕ, zero, suc, _+_, _-_, _*_, _≤_, _<_, min}
 use native.Mathlib.Nat.{not-suc-le-zero, le-of-suc-le-suc}
+use native.Mathlib.Numerals.{add-one}
+use native.Mathlib.Decide.{decLe}
 use native.Mathlib.Omega.{arith}
-use lib.ListN.{length, getD, take}
+use lib.ListN.{length, getD}
+use lib.Seq.{getD-set-other}
 use mir.Val.{boolByte}
+use Rattle.code.specs.declared.Link.{Link}
+use Rattle.code.specs.declared.Link.the-variants.{Changed, More, Less}
 use Rattle.code.specs.Layers.{Word, digit, pair}
 use Rattle.code.specs.LayersLaws.{digit-below}
-use Rattle.code.specs.Repair.{putIn, leaveOut}
+use Rattle.code.specs.Links.{sent}
+use Rattle.code.specs.Repair.{putIn, leaveOut, mendedWord}
+use Rattle.mending.specs.Answers.{received, pastAll}
 
 -- a bit as a number that the code reads
 pub digit-is : (b c : Bool) (n : ℕ) → b ≡ c → n ≡ digit b → (n ≡ digit c) × (n < 2)
@@ -60,10 +67,38 @@ module _ (b : Bool) where
       let f : suc i - 1 ≡ i = omega arith in
       rw e (put-behind at (suc i) w (le-of-suc-le-suc h) (le-of-suc-le-suc l) ∙ rw f)
 
--- one more pair of bits
-pub pair-more : (h l : Word) (i : ℕ) → i < length h → i < length l → pair (take (suc i) h) (take (suc i) l) ≡ pair (take i h) (take i l) ++ (2 * digit (getD h i false) + digit (getD l i false)) ∷ []
+pub before-mended : (link : Link) (w : Word) (at i : ℕ) (b : Bool) → i < at → i < length w → getD (mendedWord link w at b) i false ≡ getD w i false
+before-mended Changed w at i b h l = getD-set-other w at i b false (λ e. omega arith)
+before-mended More w at i b h l = leave-before at i w h l
+before-mended Less w at i b h l = put-before b at i w h l
+
+-- place i stands behind the mended one; a changed bit moves no other
+abbrev pub Behind : Link → ℕ → ℕ → Type 0
+Behind Changed at i = i ≡ at → ⊥
+Behind More at i = at < i
+Behind Less at i = at < i
+
+pub past-above : (n at p e : ℕ) → (at < n → p ≡ at + 1) → (n ≤ at → p ≡ e) → min (at + 1) e ≤ p
+past-above n at p e u v = go (decLe n at)
+  where
+    go : Dec (n ≤ at) → min (at + 1) e ≤ p
+    go (yes h) = omega (arith, v h)
+    go (no h) = omega (arith, u (omega arith))
+
+pub past-behind : (link : Link) (n at p i : ℕ) → (at < n → p ≡ at + 1) → (n ≤ at → p ≡ pastAll link n) → p ≤ i → i < sent link n → Behind link at i
+past-behind Changed n at p i u v h l = λ e. omega (arith, u (omega arith))
+past-behind More n at p i u v h l = omega (arith, past-above n at p n u v)
+past-behind Less n at p i u v h l = omega (arith, past-above n at p (n + 1) u v)
+
+pub behind-mended : (link : Link) (w : Word) (at i : ℕ) (b : Bool) → Behind link at i → i < sent link (length w) → getD (mendedWord link w at b) i false ≡ getD w (received link i) false
+behind-mended Changed w at i b h l = getD-set-other w at i b false h
+behind-mended More w at i b h l = rw add-one (leave-behind at i w (omega arith))
+behind-mended Less w at i b h l = put-behind b at i w h (omega arith)
+
+-- a symbol of two words
+pub pair-at : (h l : Word) (i : ℕ) → i < length h → i < length l → getD (pair h l) i 0 ≡ 2 * digit (getD h i false) + digit (getD l i false)
 unfolding pair
-pair-more [] l i p q = absurd (not-suc-le-zero p)
-pair-more (x ∷ h) [] i p q = absurd (not-suc-le-zero q)
-pair-more (x ∷ h) (y ∷ l) zero p q = refl
-pair-more (x ∷ h) (y ∷ l) (suc i) p q = ap (λ (m : List ℕ). (2 * digit x + digit y) ∷ m) (pair-more h l i (le-of-suc-le-suc p) (le-of-suc-le-suc q))
+pair-at [] l i p q = absurd (not-suc-le-zero p)
+pair-at (x ∷ h) [] i p q = absurd (not-suc-le-zero q)
+pair-at (x ∷ h) (y ∷ l) zero p q = refl
+pair-at (x ∷ h) (y ∷ l) (suc i) p q = pair-at h l i (le-of-suc-le-suc p) (le-of-suc-le-suc q)

@@ -1,4 +1,5 @@
 pub mod Ahead
 pub mod Digits
 pub mod Mending
+pub mod Stretches
 pub mod Tried

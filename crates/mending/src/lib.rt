@@ -3,14 +3,15 @@ use code::Link;
 use code::Repair;
 use layers::digit_of;
 ghost use mathlib.Core.Path.{_≡_};
-ghost use Prim.Native.Nat.{_+_, _<_, _≤_};
+ghost use Prim.Native.Nat.{_+_, _-_, _^_, _<_, _≤_, min, max};
 ghost use mathlib.Core.Bool.{false};
 ghost use lib.ListN.{length, getD};
+ghost use Rattle.code.specs.Lists.{putAt};
 ghost use Rattle.code.specs.Layers.{layer, digit, pair, sumOfPlaces};
 ghost use Rattle.code.specs.Links.{sent};
 ghost use Rattle.code.specs.Repair.{repair, mended, mendedWord};
 ghost use Rattle.code.specs.declared.Link.the-variants.{Changed, More, Less};
-ghost use Rattle.mending.specs.Answers.{ahead};
+ghost use Rattle.mending.specs.Answers.{ahead, lowest, received, pastAll};
 
 // The least number that leads from a to b modulo m.
 fn ahead_of(a: usize, b: usize, m: usize) -> usize
@@ -169,18 +170,84 @@ pub struct Fix {
     pub bit: bool,
 }
 
-// The symbols whose layers are the two mended ones, in `out`.
+// The least of two numbers.
+fn least(a: usize, b: usize) -> usize
+    ensures { λ r. ⌜ r ≡ min a b ⌝ }
+{
+    if a < b {
+        return a;
+    }
+    b
+}
+
+// The greatest of two numbers.
+fn greatest(a: usize, b: usize) -> usize
+    ensures { λ r. ⌜ r ≡ max a b ⌝ }
+{
+    if a < b {
+        return b;
+    }
+    a
+}
+
+// Symbols from place `from` on, by their lowest two bits, at the places from `at` to before `to` of `out`.
+fn put_symbols(symbols: &[u8], from: usize, out: &mut [u8], at: usize, to: usize)
+    requires { ⌜ (at ≤ to) × (to ≤ length (now out)) × (to - at ≤ length (now symbols) - from) ⌝ }
+    ensures { λ _. ⌜ now (out .exit) ≡ putAt (now (out .entry)) at (lowest (now (symbols .entry)) from (to - at)) ⌝ }
+{
+    let n = to - at;
+    let mut i = 0;
+    while i < n {
+        out[at + i] = symbols[from + i] & 3;
+        i += 1;
+    }
+}
+
+// The received place of the symbol that stands at place i behind all mended ones.
+fn behind(link: Link, i: usize) -> usize
+    requires { ⌜ (link ≡ Less → 0 < i) × (i < 2 ^ 63) ⌝ }
+    ensures { λ r. ⌜ r ≡ received link i ⌝ }
+{
+    match link {
+        Link::Changed => i,
+        Link::More => i + 1,
+        Link::Less => i - 1,
+    }
+}
+
+// The place behind a mended one, n symbols being received; 0 where the layer does not change.
+fn past(link: Link, at: usize, n: usize) -> usize
+    requires { ⌜ n < 2 ^ 63 ⌝ }
+    ensures { λ r. ⌜ (at < n → r ≡ at + 1) × (n ≤ at → r ≡ pastAll link n) ⌝ }
+{
+    if at < n {
+        return at + 1;
+    }
+    match link {
+        Link::Changed => 0,
+        Link::More => n,
+        Link::Less => n + 1,
+    }
+}
+
+// The symbols whose layers are the two mended ones, in `out`: received ones before the first mended place and behind the last.
 pub fn mended_pair(link: Link, symbols: &[u8], high: Fix, low: Fix, out: &mut [u8])
     requires { ⌜ length (now out) ≡ sent link (length (now symbols)) ⌝ }
     requires { ⌜ length (mendedWord link (layer 1 (now symbols)) (high .at) (high .bit)) ≡ length (now out) ⌝ }
     requires { ⌜ length (mendedWord link (layer 0 (now symbols)) (low .at) (low .bit)) ≡ length (now out) ⌝ }
     ensures { λ _. ⌜ now (out .exit) ≡ pair (mendedWord link (layer 1 (now (symbols .entry))) (high .at) (high .bit)) (mendedWord link (layer 0 (now (symbols .entry))) (low .at) (low .bit)) ⌝ }
 {
-    let mut i = 0;
-    while i < out.len() {
-        let h = mended_digit(link, symbols, 1, high.at, high.bit, i);
-        let l = mended_digit(link, symbols, 0, low.at, low.bit, i);
-        out[i] = (2 * h + l) as u8;
+    let n = symbols.len();
+    let k = out.len();
+    let first = least(least(high.at, low.at), n);
+    let last = least(greatest(past(link, high.at, n), past(link, low.at, n)), k);
+    put_symbols(symbols, 0, out, 0, first);
+    let mut i = first;
+    while i < last {
+        let x = mended_digit(link, symbols, 1, high.at, high.bit, i);
+        let y = mended_digit(link, symbols, 0, low.at, low.bit, i);
+        out[i] = (2 * x + y) as u8;
         i += 1;
     }
+    put_symbols(symbols, behind(link, i), out, i, k);
 }

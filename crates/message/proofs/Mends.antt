@@ -80,7 +80,7 @@ mended-syndrome l x w h k same long below eh ek =
     rw (← long, layer-pair-high h k same, layer-pair-low h k same, repair-found l (number (layer 1 w)) (layer 1 x) h eh .written, repair-found l (number (layer 0 w)) (layer 0 x) k ek .written, read 1, read 0) (sym (pair-layers w below))
 
 -- the mended message has room, and w for its syndrome symbols
-pub mended-given : (l : Link) (x w : List ℕ) (h k : Word) (out : List ℕ) (n : ℕ) → (2 ≤ n) × (n ≤ 4096) × (length w ≡ width n) → n ≡ sent l (length x) → Below 4 w → repair l (number (layer 1 w)) (layer 1 x) ≡ some h → repair l (number (layer 0 w)) (layer 0 x) ≡ some k → out ≡ pair h k → (2 ≤ length out) × (length out ≤ 4096) × (w ≡ syndromeOf out)
+pub mended-given : (l : Link) (x w : List ℕ) (h k : Word) (out : List ℕ) (n : ℕ) → (2 ≤ n) × (n ≤ 256) × (length w ≡ width n) → n ≡ sent l (length x) → Below 4 w → repair l (number (layer 1 w)) (layer 1 x) ≡ some h → repair l (number (layer 0 w)) (layer 0 x) ≡ some k → out ≡ pair h k → (2 ≤ length out) × (length out ≤ 256) × (w ≡ syndromeOf out)
 mended-given l x w h k out n room sends below eh ek e =
     let a = word-length l 1 x (number (layer 1 w)) h eh in
     let same : length h ≡ length k = a ∙ sym (word-length l 0 x (number (layer 0 w)) k ek) in

@@ -106,7 +106,7 @@ moved-least early k = omega arith
 moved-least late k = omega arith
 
 -- k symbols have at most 16 syndrome symbols
-pub width-most : (k : ℕ) → k ≤ 4096 → width k ≤ 16
+pub width-most : (k : ℕ) → k ≤ 256 → width k ≤ 16
 width-most k h = width-least k .least 16 (omega arith)
 
 -- a part from a place on, as the code takes it

@@ -56,11 +56,8 @@ pub fn copy(s: &[u8], from: usize, out: &mut [u8])
     requires { ⌜ from + length (now out) ≤ length (now s) ⌝ }
     ensures { λ _. ⌜ now (out .exit) ≡ take (length (now (out .entry))) (drop from (now (s .entry))) ⌝ }
 {
-    let mut i = 0;
-    while i < out.len() {
-        out[i] = s[from + i];
-        i += 1;
-    }
+    let to = from + out.len();
+    copying::put(&s[from..to], out, 0);
 }
 
 // The message is lost in a step.
@@ -81,7 +78,7 @@ fn lost_in(step: u8) -> Got
 
 // The message is the symbols from a place on, whose tail is known.
 fn taken_with(s: &[u8], from: usize, tail: Tail, out: &mut [u8]) -> Got
-    requires { ⌜ (2 ≤ length (now out)) × (length (now out) ≤ 4096) × (from + length (now out) ≤ length (now s)) ⌝ }
+    requires { ⌜ (2 ≤ length (now out)) × (length (now out) ≤ 256) × (from + length (now out) ≤ length (now s)) ⌝ }
     requires { ⌜ Below 4 (now s) ⌝ }
     requires { ⌜ IsTail (take (length (now out)) (drop from (now s))) tail ⌝ }
     ensures { λ r. ⌜ IsGot (message (take (length (now (out .entry))) (drop from (now (s .entry))))) (now (out .exit)) r ⌝ }
@@ -92,7 +89,7 @@ fn taken_with(s: &[u8], from: usize, tail: Tail, out: &mut [u8]) -> Got
 
 // The message is the symbols from a place on.
 fn taken(s: &[u8], from: usize, out: &mut [u8]) -> Got
-    requires { ⌜ (2 ≤ length (now out)) × (length (now out) ≤ 4096) × (from + length (now out) ≤ length (now s)) ⌝ }
+    requires { ⌜ (2 ≤ length (now out)) × (length (now out) ≤ 256) × (from + length (now out) ≤ length (now s)) ⌝ }
     requires { ⌜ Below 4 (now s) ⌝ }
     ensures { λ r. ⌜ IsGot (message (take (length (now (out .entry))) (drop from (now (s .entry))))) (now (out .exit)) r ⌝ }
 {
@@ -103,7 +100,7 @@ fn taken(s: &[u8], from: usize, out: &mut [u8]) -> Got
 
 // Step 6: with no separator the symbols at d, whose tail is known, if the check agrees.
 fn without_separator(s: &[u8], d: usize, tail: Tail, out: &mut [u8]) -> Got
-    requires { ⌜ (2 ≤ length (now out)) × (length (now out) ≤ 4096) × (d + length (now out) ≤ length (now s)) × (length (now s) < 16384) ⌝ }
+    requires { ⌜ (2 ≤ length (now out)) × (length (now out) ≤ 256) × (d + length (now out) ≤ length (now s)) × (length (now s) < 16384) ⌝ }
     requires { ⌜ Below 4 (now s) ⌝ }
     requires { ⌜ IsTail (take (length (now out)) (drop d (now s))) tail ⌝ }
     ensures { λ r. ⌜ IsGot (messageWithout (length (now (out .entry))) (drop d (now (s .entry)))) (now (out .exit)) r ⌝ }
@@ -129,8 +126,8 @@ fn link_of(j: usize) -> Link
 
 // Step 7: both layers of the received symbols repaired, from their sums of places, with the syndromes that the written symbols hold.
 fn mend_both(link: Link, received: &[u8], sums: Layers, written: &[u8], out: &mut [u8]) -> Got
-    requires { ⌜ (2 ≤ length (now out)) × (length (now out) ≤ 4096) × (length (now written) ≡ width (length (now out))) ⌝ }
-    requires { ⌜ (length (now out) ≡ sent link (length (now received))) × (length (now received) ≤ 4097) × (sums ≡ both sumOfPlaces (now received)) ⌝ }
+    requires { ⌜ (2 ≤ length (now out)) × (length (now out) ≤ 256) × (length (now written) ≡ width (length (now out))) ⌝ }
+    requires { ⌜ (length (now out) ≡ sent link (length (now received))) × (length (now received) ≤ 257) × (sums ≡ both sumOfPlaces (now received)) ⌝ }
     requires { ⌜ Below 4 (now written) ⌝ }
     ensures { λ r. ⌜ IsGot (bothLayers (repair link (number (layer 1 (now (written .entry)))) (layer 1 (now (received .entry)))) (repair link (number (layer 0 (now (written .entry)))) (layer 0 (now (received .entry))))) (now (out .exit)) r ⌝ }
 {
@@ -162,7 +159,7 @@ fn mend_both(link: Link, received: &[u8], sums: Layers, written: &[u8], out: &mu
 
 // The sums of places of the received symbols, from those of the k symbols at d: the same, or of one symbol less or more.
 fn received_sums(s: &[u8], d: usize, k: usize, j: usize, sums: Layers) -> Layers
-    requires { ⌜ (0 < k) × (k ≤ 4096) × (j < 3) × (d + k ≤ length (now s)) × (length (now s) < 16384) ⌝ }
+    requires { ⌜ (0 < k) × (k ≤ 256) × (j < 3) × (d + k ≤ length (now s)) × (length (now s) < 16384) ⌝ }
     requires { ⌜ (d + moved (shiftOf j) k ≤ length (now s)) × (sums ≡ both sumOfPlaces (take k (drop d (now s)))) ⌝ }
     ensures { λ r. ⌜ r ≡ both sumOfPlaces (take (moved (shiftOf j) k) (drop d (now (s .entry)))) ⌝ }
 {
@@ -178,7 +175,7 @@ fn received_sums(s: &[u8], d: usize, k: usize, j: usize, sums: Layers) -> Layers
 
 // Step 7: both layers repaired from the received symbols at d, with the syndrome written after the separator; the k symbols at d are summed.
 fn repair_at(s: &[u8], d: usize, j: usize, sums: Layers, out: &mut [u8]) -> Got
-    requires { ⌜ (2 ≤ length (now out)) × (length (now out) ≤ 4096) × (j < 3) ⌝ }
+    requires { ⌜ (2 ≤ length (now out)) × (length (now out) ≤ 256) × (j < 3) ⌝ }
     requires { ⌜ (d + (moved (shiftOf j) (length (now out) + 1) + 3) ≤ length (now s)) × (length (now s) < 16384) ⌝ }
     requires { ⌜ sums ≡ both sumOfPlaces (take (length (now out)) (drop d (now s))) ⌝ }
     requires { ⌜ Below 4 (now s) ⌝ }
@@ -198,7 +195,7 @@ fn repair_at(s: &[u8], d: usize, j: usize, sums: Layers, out: &mut [u8]) -> Got
 
 // The symbols at d are taken as they stand: the check agrees, where the separator is in its place, or the syndrome.
 fn agrees(s: &[u8], d: usize, k: usize, j: usize, tail: Tail) -> bool
-    requires { ⌜ (d < 16384) × (k ≤ 4096) × (j < 3) × (0 < tail .width) × (tail .width ≤ 16) ⌝ }
+    requires { ⌜ (d < 16384) × (k ≤ 256) × (j < 3) × (0 < tail .width) × (tail .width ≤ 16) ⌝ }
     ensures { λ r. ⌜ r ≡ tookBy (shiftOf j) k (drop d (now (s .entry))) tail ⌝ }
 {
     if j != 0 {
@@ -212,7 +209,7 @@ fn agrees(s: &[u8], d: usize, k: usize, j: usize, tail: Tail) -> bool
 
 // Steps 4 and 5: the symbols at d, with their sums and tail, or the repaired ones, where the separator was found moved by the j-th offset.
 fn at_separator(s: &[u8], d: usize, j: usize, sums: Layers, tail: Tail, out: &mut [u8]) -> Got
-    requires { ⌜ (2 ≤ length (now out)) × (length (now out) ≤ 4096) × (j < 3) ⌝ }
+    requires { ⌜ (2 ≤ length (now out)) × (length (now out) ≤ 256) × (j < 3) ⌝ }
     requires { ⌜ (d + (moved (shiftOf j) (length (now out) + 1) + 3) ≤ length (now s)) × (length (now s) < 16384) ⌝ }
     requires { ⌜ (sums ≡ both sumOfPlaces (take (length (now out)) (drop d (now s)))) × IsTail (take (length (now out)) (drop d (now s))) tail ⌝ }
     requires { ⌜ Below 4 (now s) ⌝ }
@@ -226,7 +223,7 @@ fn at_separator(s: &[u8], d: usize, j: usize, sums: Layers, tail: Tail, out: &mu
 
 // Step 3: the marker is hit; the symbols before the check, which stands before the separator.
 pub fn read_hit(s: &[u8], p: usize, j: usize, out: &mut [u8]) -> Got
-    requires { ⌜ (2 ≤ length (now out)) × (length (now out) ≤ 4096) × (p < 16384) ⌝ }
+    requires { ⌜ (2 ≤ length (now out)) × (length (now out) ≤ 256) × (p < 16384) ⌝ }
     requires { ⌜ (j ≡ shiftIndex (separatorAt (length (now out)) (drop (p + 2) (now s)))) × (length (now s) < 16384) ⌝ }
     requires { ⌜ Below 4 (now s) ⌝ }
     ensures { λ r. ⌜ IsGot (gotHit (length (now (out .entry))) (drop p (now (s .entry))) (separatorAt (length (now (out .entry))) (drop (p + 2) (now (s .entry))))) (now (out .exit)) r ⌝ }
@@ -239,7 +236,7 @@ pub fn read_hit(s: &[u8], p: usize, j: usize, out: &mut [u8]) -> Got
 
 // Steps 4 to 7: the marker is whole, the symbols at d are summed, and the separator was found moved by the j-th offset, or not.
 pub fn read_whole(s: &[u8], d: usize, j: usize, sums: Layers, tail: Tail, out: &mut [u8]) -> Got
-    requires { ⌜ (2 ≤ length (now out)) × (length (now out) ≤ 4096) × (d + length (now out) ≤ length (now s)) ⌝ }
+    requires { ⌜ (2 ≤ length (now out)) × (length (now out) ≤ 256) × (d + length (now out) ≤ length (now s)) ⌝ }
     requires { ⌜ (j ≡ shiftIndex (separatorAt (length (now out)) (drop d (now s)))) × (length (now s) < 16000) ⌝ }
     requires { ⌜ (sums ≡ both sumOfPlaces (take (length (now out)) (drop d (now s)))) × IsTail (take (length (now out)) (drop d (now s))) tail ⌝ }
     requires { ⌜ Below 4 (now s) ⌝ }

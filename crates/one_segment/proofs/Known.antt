@@ -2,12 +2,11 @@
 --   clean-answers   it counts as clean, where another follows it or nothing does
 --   M-*             the parts of a segment that stands at p
 use mathlib.Core.Path.{_≡_, refl, sym, ap, subst, _∙_}
-use mathlib.Core.Bool.{Bool, true, false, false≢true, _&&_}
+use mathlib.Core.Bool.{Bool, true, false}
 use mathlib.Core.List.{List, [], _∷_, _++_, append-assoc, cons≢nil}
 use mathlib.Core.Option.{some}
 use Prim.Native.Nat.{ℕ, zero, suc, _+_, _-_, _≤_}
 use native.Mathlib.Omega.{arith}
-use borrow.Author.Tests.{eqb-true}
 use lib.ListN.{length, getD, take, drop, length-drop, length-append}
 use lib.Seq.{drop-drop, take-at, getD-take, getD-drop, length-take-le}
 use Rattle.code.specs.Symbols.{Below}
@@ -22,13 +21,11 @@ use Rattle.code.specs.ReadingLaws.{starts-split, drop-off}
 use Rattle.code.specs.StepLaws.{Final}
 use Rattle.code.specs.StrandsLaws.{clean-got, clean-read}
 use Rattle.code.specs.declared.Edit.the-variants.{None}
-use Rattle.tail.specs.declared.Tail.{Tail}
-use Rattle.tail.specs.Tails.{mark, IsTail}
+use Rattle.tail.specs.Tails.{mark}
 use Rattle.tail.proofs.Tails.{marked-block}
 use Rattle.scan.proofs.Starts.{clean-inside}
 use Rattle.one_segment.specs.declared.One.{One}
 use Rattle.one_segment.specs.declared.One.the-variants.{Read}
-use Rattle.standing.specs.Ends.{mayEnd}
 use Rattle.ending.specs.Followers.{followers}
 use Rattle.one_segment.specs.Ones.{oneAs}
 use Rattle.one_segment.proofs.OneRead.{Answers, end-read}
@@ -140,19 +137,6 @@ module _ (marked : Bool) (f k p d : ℕ) (s : List ℕ) (two : 2 ≤ k) (small :
       last-end : (x : ℕ) → x ≡ 0 → endOf marked (length out) (followers x) S S out ≡ some (length s - p)
       last-end zero h = ap some (length-drop p s)
       last-end (suc x) h = absurd (omega arith)
-
--- the width of the tail of k symbols
-pub part-width : (d k : ℕ) (s : List ℕ) (t : Tail) → d + k ≤ length s → IsTail (take k (drop d s)) t → t .width ≡ width k
-part-width d k s t room tail = tail .width ∙ ap width (length-take-le k (drop d s) (simp length-drop (omega arith)))
-
--- what the test in place tells
-pub stands-ends : (r stands : Bool) (next end n : ℕ) → r ≡ (stands && mayEnd next end n) → r ≡ true → (stands ≡ true) × (next ≡ 0 → end ≡ n)
-stands-ends r stands next end n e t = go stands next (sym e ∙ t)
-  where
-    go : (b : Bool) (x : ℕ) → (b && mayEnd x end n) ≡ true → (b ≡ true) × (x ≡ 0 → end ≡ n)
-    go true zero h = (refl, λ z. eqb-true end n h)
-    go true (suc x) h = (refl, λ z. absurd (omega arith))
-    go false x h = absurd (false≢true h)
 
 -- a segment that is known to be clean stands
 pub clean-stands : (k f p : ℕ) (s : List ℕ) → R.clean k f (drop p s) ≡ true → (starts (segment true f (take k (drop 2 (drop p s)))) (drop p s) ≡ true) × (p + 2 + k ≤ length s)

@@ -18,7 +18,10 @@ use Rattle.code.specs.Reading as R
 use Rattle.code.specs.MessageLengths.{got-length}
 use Rattle.code.specs.declared.Edit.{Edit}
 use Rattle.code.specs.declared.Link.{Link}
+use Rattle.layers.specs.declared.Summed.{Summed}
+use Rattle.layers.specs.Answers.{sumsOf}
 use Rattle.tail.specs.Tails.{IsTail}
+use Rattle.in_place.specs.Sights.{SumsAt}
 use Rattle.message.specs.declared.Got.{Got}
 use Rattle.message.specs.Answers.{shiftIndex, shiftOf, IsGot}
 use Rattle.message.proofs.Steps.{without-short, found-room, moved-least}
@@ -144,6 +147,12 @@ clean-behind next p end s m h x e c j y q = subst (CleanNext next s) (sym q) (go
 -- the separator's number, sought behind the marker
 pub placed : (s : List ℕ) (p : ℕ) (marked : Bool) (j k d : ℕ) → d ≡ dataAt marked → j ≡ shiftIndex (separatorAt k (drop (p + d) s)) → j ≡ shiftIndex (separatorAt k (drop (dataAt marked) (drop p s)))
 placed s p marked j k d e h = rw (drop-drop (dataAt marked) p s, ← e) h
+
+-- the sums of the part of k symbols behind the marker
+pub summed-there : (marked : Bool) (k p i : ℕ) (s : List ℕ) (u : Summed) → i ≡ dataAt marked → whole marked (drop p s) ≡ true → p + i + k ≤ length s → SumsAt marked k p s u → u ≡ sumsOf (take (p + i + k - (p + i)) (drop (p + i) s))
+summed-there marked k p i s u e w h sums =
+    let n : p + i + k - (p + i) ≡ k = omega arith in
+    sums w (omega (arith, e)) ∙ rw (n, e)
 
 -- Step 1: what the marker says of the message
 

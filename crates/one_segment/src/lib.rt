@@ -1,10 +1,9 @@
 // Step 9, and with it the reading of one segment.
 use code::Edit;
-use compare::tests::two_equal;
-use ending::data_at;
 use ending::end_of;
 use judging::Judged;
 use judging::judge;
+use layers::Summed;
 use message::Got;
 use message::copy;
 use message::find_separator;
@@ -13,21 +12,23 @@ use message::read_whole;
 use scan::Start;
 use segment::put_segment;
 use segment::size_of;
-use standing::segment_stands;
+use standing::data_at;
+use standing::is_whole;
 use tail::Tail;
 use tail::last_of;
 use tail::tail_given;
 use tail::tail_with;
 ghost use mathlib.Core.Path.{_≡_};
-ghost use mathlib.Core.Bool.{true};
+ghost use mathlib.Core.Bool.{true, false};
 ghost use Prim.Native.Nat.{_-_, _<_, _≤_};
 ghost use lib.ListN.{length, take, drop};
 ghost use Rattle.code.specs.Symbols.{Below};
 ghost use Rattle.code.specs.Segment.{segment};
 ghost use Rattle.code.specs.Edits.{judged};
-ghost use Rattle.code.specs.Reading.{whole, separatorAt, dataAt, withEdit, readOne};
+ghost use Rattle.code.specs.Reading.{separatorAt, dataAt, withEdit, readOne};
 ghost use Rattle.code.specs.Reading as R;
 ghost use Rattle.tail.specs.Tails.{IsTail};
+ghost use Rattle.in_place.specs.Sights.{SumsAt};
 ghost use Rattle.message.specs.Answers.{shiftIndex, IsGot};
 ghost use Rattle.ending.specs.Followers.{followers};
 ghost use Rattle.one_segment.specs.Ones.{oneAs, Holds, CleanNext};
@@ -60,17 +61,6 @@ fn compared(s: &[u8], p: usize, marked: bool, f: u8, message: &[u8], tail: Tail,
     One::Read(edit, end, last_of(tail))
 }
 
-// Step 1: the marker of the segment at p is whole.
-fn is_whole(s: &[u8], p: usize, marked: bool) -> bool
-    requires { ⌜ p < 65536 ⌝ }
-    ensures { λ r. ⌜ r ≡ whole marked (drop p (now (s .entry))) ⌝ }
-{
-    if marked {
-        return two_equal(s, p);
-    }
-    true
-}
-
 // Steps 8 and 9 of the segment at p, whose message was read or lost.
 fn finished(
     s: &[u8],
@@ -85,7 +75,7 @@ fn finished(
 ) -> Seen
     requires { ⌜ Below 4 (now s) ⌝ }
     requires { ⌜ (p ≤ length (now s)) × (length (now s) ≤ 4096) × (2 ≤ k) × (k ≤ 64) ⌝ }
-    requires { ⌜ (next ≤ 4000) × (next ≡ 1 → ⊥) × (f < 4) ⌝ }
+    requires { ⌜ (next ≤ 256) × (next ≡ 1 → ⊥) × (f < 4) ⌝ }
     requires { ⌜ (j ≡ shiftIndex (separatorAt k (drop (dataAt marked) (drop p (now s))))) × IsGot (R.got marked k (drop p (now s))) (now message) got ⌝ }
     ensures { λ r. ⌜ r .one ≡ oneAs p (readOne marked f k (followers next) (drop p (now (s .entry))) (drop p (now (s .entry)))) ⌝ }
     ensures { λ _. ⌜ Holds (length (drop p (now (s .entry)))) (readOne marked f k (followers next) (drop p (now (s .entry))) (drop p (now (s .entry)))) (now (message .entry)) ⌝ }
@@ -134,11 +124,20 @@ fn read_clean(s: &[u8], p: usize, f: u8, next: usize, out: &mut [u8]) -> One
     compared(s, p, true, f, out, tail, s.len())
 }
 
-// Steps 1 to 9 of a segment of which nothing is known.
-fn read_one(s: &[u8], p: usize, marked: bool, f: u8, next: usize, out: &mut [u8]) -> Seen
+// Steps 1 to 9 of a segment that does not stand in its place; the k symbols at D are summed.
+fn read_one(
+    s: &[u8],
+    p: usize,
+    marked: bool,
+    f: u8,
+    next: usize,
+    sums: Summed,
+    out: &mut [u8],
+) -> Seen
     requires { ⌜ Below 4 (now s) ⌝ }
     requires { ⌜ (p ≤ length (now s)) × (length (now s) ≤ 4096) × (2 ≤ length (now out)) × (length (now out) ≤ 64) ⌝ }
-    requires { ⌜ (next ≤ 4000) × (next ≡ 1 → ⊥) × (f < 4) ⌝ }
+    requires { ⌜ (next ≤ 256) × (next ≡ 1 → ⊥) × (f < 4) ⌝ }
+    requires { ⌜ SumsAt marked (length (now out)) p (now s) sums ⌝ }
     ensures { λ r. ⌜ r .one ≡ oneAs p (readOne marked f (length (now (out .entry))) (followers next) (drop p (now (s .entry))) (drop p (now (s .entry)))) ⌝ }
     ensures { λ _. ⌜ Holds (length (drop p (now (s .entry)))) (readOne marked f (length (now (out .entry))) (followers next) (drop p (now (s .entry))) (drop p (now (s .entry)))) (now (out .exit)) ⌝ }
     ensures { λ r. ⌜ (r .clean ≡ true → CleanNext next (now (s .entry)) (r .one)) ⌝ }
@@ -157,22 +156,13 @@ fn read_one(s: &[u8], p: usize, marked: bool, f: u8, next: usize, out: &mut [u8]
             clean: false,
         };
     }
-    let sums = layers::sums(&s[d..to]);
     let tail = tail_with(&s[d..to], sums);
-    if segment_stands(s, p, marked, f, d, k, tail, next) {
-        let end = to + (4 + tail.width);
-        copy(s, d, out);
-        return Seen {
-            one: One::Read(Edit::None, end, s[end - 1]),
-            clean: false,
-        };
-    }
     let j = find_separator(s, d, k);
     let got = read_whole(s, d, j, sums.places, tail, out);
     finished(s, p, marked, f, next, k, j, out, got)
 }
 
-// Steps 1 to 9 of the segment at p, whose message goes to `out`; f is the last symbol before it, `next` the length of the message after it, 0 for none; it may be known to be clean.
+// Steps 1 to 9 of the segment at p, whose message goes to `out`; f is the last symbol before it, `next` the length of the message after it, 0 for none; it is known to be clean, or its sums are.
 pub fn read_segment(
     s: &[u8],
     p: usize,
@@ -180,12 +170,14 @@ pub fn read_segment(
     f: u8,
     next: usize,
     clean: bool,
+    sums: Summed,
     out: &mut [u8],
 ) -> Seen
     requires { ⌜ Below 4 (now s) ⌝ }
     requires { ⌜ (p ≤ length (now s)) × (length (now s) ≤ 4096) × (2 ≤ length (now out)) × (length (now out) ≤ 64) ⌝ }
-    requires { ⌜ (next ≤ 4000) × (next ≡ 1 → ⊥) × (f < 4) ⌝ }
+    requires { ⌜ (next ≤ 256) × (next ≡ 1 → ⊥) × (f < 4) ⌝ }
     requires { ⌜ (clean ≡ true → (marked ≡ true) × (R.clean (length (now out)) f (drop p (now s)) ≡ true)) ⌝ }
+    requires { ⌜ (clean ≡ false → SumsAt marked (length (now out)) p (now s) sums) ⌝ }
     ensures { λ r. ⌜ r .one ≡ oneAs p (readOne marked f (length (now (out .entry))) (followers next) (drop p (now (s .entry))) (drop p (now (s .entry)))) ⌝ }
     ensures { λ _. ⌜ Holds (length (drop p (now (s .entry)))) (readOne marked f (length (now (out .entry))) (followers next) (drop p (now (s .entry))) (drop p (now (s .entry)))) (now (out .exit)) ⌝ }
     ensures { λ r. ⌜ (r .clean ≡ true → CleanNext next (now (s .entry)) (r .one)) ⌝ }
@@ -196,5 +188,5 @@ pub fn read_segment(
             clean: false,
         };
     }
-    read_one(s, p, marked, f, next, out)
+    read_one(s, p, marked, f, next, sums, out)
 }

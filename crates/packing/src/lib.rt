@@ -14,19 +14,42 @@ pub fn pack4(a: u8, b: u8, c: u8, d: u8) -> u8
     (word * 1074791425 / 16777216 % 256) as u8
 }
 
-// The symbols of bytes, four to a byte, at the front of `out`.
+// The two symbols of four bits, the first in the lower byte.
+const PAIRS: [u16; 16] = [
+    0,
+    256,
+    512,
+    768,
+    1,
+    257,
+    513,
+    769,
+    2,
+    258,
+    514,
+    770,
+    3,
+    259,
+    515,
+    771,
+];
+
+// The symbols of bytes, four to a byte, at the front of `out`, two at a time from one copy of the table.
 pub fn unpack(bytes: &[u8], out: &mut [u8])
     requires { ⌜ 4 * length (now bytes) ≤ length (now out) ⌝ }
     ensures { λ _. ⌜ now (out .exit) ≡ symbols (now (bytes .entry)) ++ drop (4 * length (now (bytes .entry))) (now (out .entry)) ⌝ }
 {
+    let pairs = PAIRS;
     let mut i = 0;
     while i < bytes.len() {
         let x = bytes[i];
         let j = 4 * i;
-        out[j] = x >> 6;
-        out[j + 1] = (x >> 4) & 3;
-        out[j + 2] = (x >> 2) & 3;
-        out[j + 3] = x & 3;
+        let first = pairs[(x >> 4) as usize];
+        let second = pairs[(x & 15) as usize];
+        out[j] = (first % 256) as u8;
+        out[j + 1] = (first / 256) as u8;
+        out[j + 2] = (second % 256) as u8;
+        out[j + 3] = (second / 256) as u8;
         i += 1;
     }
 }

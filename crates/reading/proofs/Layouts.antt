@@ -17,12 +17,11 @@ use Rattle.code.specs.Reading as R
 use Rattle.code.specs.Layout.{sum, joined}
 use Rattle.code.specs.Strands.{Outcome, unfound, scan, reading, outcomes, messagesOf, marksOf, markOf}
 use Rattle.code.specs.MessageLengths.{read-length}
-use Rattle.next.specs.declared.Next.{Next}
+use Rattle.reading.specs.declared.Reached.{Reached}
 use Rattle.ending.specs.Followers.{followers}
 use Rattle.next.specs.Steps.{Step, afterLost, afterOne, stepOf, going}
 use Rattle.reading.specs.StepsLaws.{nextOf, going-step}
-use Rattle.next.specs.Nexts.{IsNext, Follows}
-use Rattle.reading.specs.Walks.{Within, done, more, endsFrom}
+use Rattle.reading.specs.Walks.{IsReached, Known, Within, done, more, endsFrom}
 
 -- Lengths within the limits
 
@@ -33,7 +32,7 @@ within-at (k ∷ ks) (suc i) (more l m w) h = within-at ks i w (omega arith)
 
 -- a length behind is none, or one of the layout
 pub record Behind (ks : List ℕ) : Type 0 where
-  pub most : nextOf ks ≤ 4000
+  pub most : nextOf ks ≤ 256
   pub not-one : nextOf ks ≡ 1 → ⊥
   pub none-left : nextOf ks ≡ 0 → ks ≡ []
 
@@ -93,10 +92,10 @@ module _ (marked : Bool) (f k next p : ℕ) (s : List ℕ) where
 
 module _ (ks s : List ℕ) where
   -- the outcomes that are to come
-  abbrev pub rest : ℕ → Next → List Outcome
+  abbrev pub rest : ℕ → Reached → List Outcome
   rest i r = going (r .found) (not (eqb i 0)) (r .f) (drop i ks) (r .start) s
 
-  pub record Walk (symbols marks ends : List ℕ) (r : Next) (at i : ℕ) : Type 0 where
+  pub record Walk (symbols marks ends : List ℕ) (r : Reached) (at i : ℕ) : Type 0 where
     pub inside : i ≤ length ks
     pub behind : at + sum (drop i ks) ≡ length symbols
     pub symbols-room : length symbols ≡ sum ks
@@ -110,11 +109,11 @@ module _ (ks s : List ℕ) where
     pub marks-are : take i marks ++ marksOf (rest i r) ≡ marksOf (outcomes ks s)
     pub ends-are : take i ends ++ endsFrom (r .start) (rest i r) ≡ endsFrom 0 (outcomes ks s)
 
-  all-left : (r : Next) → r .found ≡ true → r .start ≡ 0 → r .f ≡ 0 → rest 0 r ≡ outcomes ks s
+  all-left : (r : Reached) → r .found ≡ true → r .start ≡ 0 → r .f ≡ 0 → rest 0 r ≡ outcomes ks s
   unfolding going
   all-left r u v w = rw (u, v, w)
 
-  pub walk-begin : (symbols marks ends : List ℕ) (r : Next) → length symbols ≡ sum ks → length marks ≡ length ks → length ends ≡ length ks → r .found ≡ true → r .start ≡ 0 → r .f ≡ 0 → r .clean ≡ false → Walk symbols marks ends r 0 0
+  pub walk-begin : (symbols marks ends : List ℕ) (r : Reached) → length symbols ≡ sum ks → length marks ≡ length ks → length ends ≡ length ks → r .found ≡ true → r .start ≡ 0 → r .f ≡ 0 → r .clean ≡ false → Walk symbols marks ends r 0 0
   walk-begin symbols marks ends r a b c u v w x =
       let q : rest 0 r ≡ outcomes ks s = all-left r u v w in
       record {
@@ -132,14 +131,14 @@ module _ (ks s : List ℕ) where
         ends-are = ap (endsFrom (r .start)) q ∙ ap (λ (x : ℕ). endsFrom x (outcomes ks s)) v;
       }
 
-  module _ (symbols marks ends : List ℕ) (r r′ : Next) (at i k : ℕ) (w : Walk symbols marks ends r at i) (h : i < length ks) (e : k ≡ getD ks i 0) (two : 2 ≤ k) (b : Behind (drop (i + 1) ks)) where
+  module _ (symbols marks ends : List ℕ) (r r′ : Reached) (at i k : ℕ) (w : Walk symbols marks ends r at i) (h : i < length ks) (e : k ≡ getD ks i 0) (two : 2 ≤ k) (b : Behind (drop (i + 1) ks)) where
     abbrev t : Step
     t = stepOf (r .found) (not (eqb i 0)) (r .f) k (nextOf (drop (i + 1) ks)) (r .start) s
 
     here : drop i ks ≡ k ∷ drop (i + 1) ks
     here = rw (add-one, e, drop-cons ks i 0 h)
 
-    split : IsNext (length s) t r′ → rest i r ≡ t .outcome ∷ rest (i + 1) r′
+    split : IsReached (length s) t r′ → rest i r ≡ t .outcome ∷ rest (i + 1) r′
     split n =
         let z : not (eqb (i + 1) 0) ≡ true = ap not (ne-eqb (i + 1) 0 (λ x. omega arith)) in
         rw (n .found, n .f, n .start, z, here) (going-step (not (eqb i 0)) (r .f) k (drop (i + 1) ks) (r .start) s (b .none-left) (r .found))
@@ -148,15 +147,16 @@ module _ (ks s : List ℕ) where
     unfolding sum
     room = omega (arith, w .behind, ap sum here)
 
-    pub walk-turn : IsNext (length s) t r′ → Follows s (nextOf (drop (i + 1) ks)) r′ → (symbols′ : List ℕ) (mark : ℕ) → symbols′ ≡ putAt symbols at (t .outcome .message) → mark ≡ markOf (r′ .verdict) → Walk symbols′ (set marks i mark) (set ends i (r′ .start)) r′ (at + k) (i + 1)
+    pub walk-turn : IsReached (length s) t r′ → Known s (nextOf (drop (i + 1) ks)) r′ → (symbols′ : List ℕ) → symbols′ ≡ putAt symbols at (t .outcome .message) → Walk symbols′ (set marks i (r′ .mark)) (set ends i (r′ .start)) r′ (at + k) (i + 1)
     unfolding sum joined endsFrom
-    walk-turn n follows symbols′ mark p q =
+    walk-turn n follows symbols′ p =
+        let mark = r′ .mark in
         let m = t .outcome .message in
         let l = step-length (not (eqb i 0)) (r .f) k (nextOf (drop (i + 1) ks)) (r .start) s (r .found) (omega arith) in
         let c = split n in
         let long : length symbols′ ≡ length symbols = ap length p ∙ length-put symbols at m (omega (arith, l, room)) in
         let front : take (at + k) symbols′ ≡ take at symbols ++ m = ap (take (at + k)) p ∙ ap (λ (x : ℕ). take (at + x) (putAt symbols at m)) (sym l) ∙ take-put symbols at m (omega (arith, l, room)) in
-        let verdict : mark ≡ markOf (t .outcome .verdict) = q ∙ ap markOf (n .verdict) in
+        let verdict : mark ≡ markOf (t .outcome .verdict) = n .mark in
         let end : r′ .start ≡ r .start + length (t .outcome .piece) = n .start ∙ step-end (not (eqb i 0)) (r .f) k (nextOf (drop (i + 1) ks)) (r .start) s (r .found) (w .start) (w .unfound) (omega (arith, n .inside, n .start)) in
         let more-marks : take (i + 1) (set marks i mark) ≡ take i marks ++ mark ∷ [] = ap (λ (x : ℕ). take x (set marks i mark)) (add-one i) ∙ take-suc-set marks i mark (omega (arith, w .marks-room)) in
         let more-ends : take (i + 1) (set ends i (r′ .start)) ≡ take i ends ++ r′ .start ∷ [] = ap (λ (x : ℕ). take x (set ends i (r′ .start))) (add-one i) ∙ take-suc-set ends i (r′ .start) (omega (arith, w .ends-room)) in
@@ -177,7 +177,7 @@ module _ (ks s : List ℕ) where
         }
 
   -- the next message has room
-  pub walk-room : (symbols marks ends : List ℕ) (r : Next) (at i : ℕ) → Walk symbols marks ends r at i → i < length ks → at + getD ks i 0 ≤ length symbols
+  pub walk-room : (symbols marks ends : List ℕ) (r : Reached) (at i : ℕ) → Walk symbols marks ends r at i → i < length ks → at + getD ks i 0 ≤ length symbols
   unfolding sum
   walk-room symbols marks ends r at i w h =
       let d : drop i ks ≡ getD ks i 0 ∷ drop (suc i) ks = drop-cons ks i 0 h in
@@ -193,7 +193,7 @@ module _ (ks s : List ℕ) where
   nothing-left true marked f p = refl
   nothing-left false marked f p = refl
 
-  pub walk-end : (symbols marks ends : List ℕ) (r : Next) (at i : ℕ) → Walk symbols marks ends r at i → length ks ≤ i → Walked symbols marks ends
+  pub walk-end : (symbols marks ends : List ℕ) (r : Reached) (at i : ℕ) → Walk symbols marks ends r at i → length ks ≤ i → Walked symbols marks ends
   unfolding sum joined endsFrom
   walk-end symbols marks ends r at i w h =
       let d : drop i ks ≡ [] = drop-of-length-le ks h in

@@ -1,9 +1,14 @@
 // The segments of a layout, from the left.
 use code::Verdict;
-use next::Next;
+use in_place::Sight;
+use in_place::look;
+use in_place::unseen;
+use layers::Summed;
+use message::copy;
 use next::read_next;
+use standing::data_at;
 ghost use mathlib.Core.Path.{_≡_};
-ghost use mathlib.Core.Bool.{true};
+ghost use mathlib.Core.Bool.{true, false};
 ghost use Prim.Native.Nat.{_+_, _<_, _≤_};
 ghost use lib.ListN.{length, drop};
 ghost use Rattle.code.specs.Lists.{putAt};
@@ -13,8 +18,8 @@ ghost use Rattle.code.specs.Reading as R;
 ghost use Rattle.code.specs.Strands.{markOf, outcomes, messagesOf, marksOf};
 ghost use Rattle.next.specs.Steps.{stepOf};
 ghost use Rattle.reading.specs.StepsLaws.{nextOf};
-ghost use Rattle.next.specs.Nexts.{IsNext, Follows};
-ghost use Rattle.reading.specs.Walks.{Within, endsFrom};
+ghost use Rattle.in_place.specs.Sights.{SumsAt};
+ghost use Rattle.reading.specs.Walks.{endFor, IsReached, Known, Within, endsFrom};
 
 // The mark of a verdict.
 fn mark_of(v: Verdict) -> u8
@@ -32,26 +37,83 @@ fn mark_of(v: Verdict) -> u8
     }
 }
 
-// A segment of k message symbols, whose message goes to a place of `symbols`.
-fn read_into(
+// How far the reading has come: the mark of the segment read last, whether a start was found for the next, that start, the symbol before it, and whether the next is known to be clean.
+pub struct Reached {
+    pub mark: u8,
+    pub found: bool,
+    pub start: usize,
+    pub f: u8,
+    pub clean: bool,
+}
+
+// What is seen of a segment in its place, where its start was found and it is not known to be clean.
+fn seen_at(s: &[u8], prior: Reached, marked: bool, k: usize, next: usize) -> Sight
+    requires { ⌜ Below 4 (now s) ⌝ }
+    requires { ⌜ (prior .start ≤ length (now s)) × (length (now s) ≤ 4096) × (2 ≤ k) × (k ≤ 64) × (prior .f < 4) ⌝ }
+    ensures { λ r. ⌜ r .end ≡ endFor prior marked k next (now (s .entry)) ⌝ }
+    ensures { λ r. ⌜ (prior .found ≡ true → prior .clean ≡ false → SumsAt marked k (prior .start) (now (s .entry)) (r .sums)) ⌝ }
+{
+    if !prior.found {
+        return unseen();
+    }
+    if prior.clean {
+        return unseen();
+    }
+    look(s, prior.start, marked, prior.f, k, next)
+}
+
+// A segment that stands in its place up to `end`, whose message goes to a place of `symbols`.
+fn put_standing(
     s: &[u8],
-    prior: Next,
+    prior: Reached,
     marked: bool,
     k: usize,
     next: usize,
+    end: usize,
     symbols: &mut [u8],
     at: usize,
-) -> Next
+) -> Reached
     requires { ⌜ Below 4 (now s) ⌝ }
     requires { ⌜ (prior .start ≤ length (now s)) × (length (now s) ≤ 4096) × (2 ≤ k) × (k ≤ 64) × (at + k ≤ length (now symbols)) ⌝ }
-    requires { ⌜ (next ≤ 4000) × (next ≡ 1 → ⊥) × (prior .f < 4) ⌝ }
-    requires { ⌜ (prior .clean ≡ true → (marked ≡ true) × (R.clean k (prior .f) (drop (prior .start) (now s)) ≡ true)) ⌝ }
-    ensures { λ r. ⌜ IsNext (length (now (s .entry))) (stepOf (prior .found) marked (prior .f) k next (prior .start) (now (s .entry))) r ⌝ }
+    requires { ⌜ (end ≡ endFor prior marked k next (now s)) × (end ≡ 0 → ⊥) ⌝ }
+    ensures { λ r. ⌜ IsReached (length (now (s .entry))) (stepOf (prior .found) marked (prior .f) k next (prior .start) (now (s .entry))) r ⌝ }
     ensures { λ _. ⌜ now (symbols .exit) ≡ putAt (now (symbols .entry)) at (stepOf (prior .found) marked (prior .f) k next (prior .start) (now (s .entry)) .outcome .message) ⌝ }
-    ensures { λ r. ⌜ Follows (now (s .entry)) next r ⌝ }
+    ensures { λ r. ⌜ Known (now (s .entry)) next r ⌝ }
+{
+    let from = prior.start + data_at(marked);
+    let to = at + k;
+    copy(s, from, &mut symbols[at..to]);
+    Reached {
+        mark: 0,
+        found: true,
+        start: end,
+        f: s[end - 1],
+        clean: false,
+    }
+}
+
+// A segment that goes through the steps, whose message goes to a place of `symbols`.
+fn read_into(
+    s: &[u8],
+    prior: Reached,
+    marked: bool,
+    k: usize,
+    next: usize,
+    sums: Summed,
+    symbols: &mut [u8],
+    at: usize,
+) -> Reached
+    requires { ⌜ Below 4 (now s) ⌝ }
+    requires { ⌜ (prior .start ≤ length (now s)) × (length (now s) ≤ 4096) × (2 ≤ k) × (k ≤ 64) × (at + k ≤ length (now symbols)) ⌝ }
+    requires { ⌜ (next ≤ 256) × (next ≡ 1 → ⊥) × (prior .f < 4) ⌝ }
+    requires { ⌜ (prior .clean ≡ true → (marked ≡ true) × (R.clean k (prior .f) (drop (prior .start) (now s)) ≡ true)) ⌝ }
+    requires { ⌜ (prior .found ≡ true → prior .clean ≡ false → SumsAt marked k (prior .start) (now s) sums) ⌝ }
+    ensures { λ r. ⌜ IsReached (length (now (s .entry))) (stepOf (prior .found) marked (prior .f) k next (prior .start) (now (s .entry))) r ⌝ }
+    ensures { λ _. ⌜ now (symbols .exit) ≡ putAt (now (symbols .entry)) at (stepOf (prior .found) marked (prior .f) k next (prior .start) (now (s .entry)) .outcome .message) ⌝ }
+    ensures { λ r. ⌜ Known (now (s .entry)) next r ⌝ }
 {
     let to = at + k;
-    read_next(
+    let n = read_next(
         s,
         prior.found,
         prior.start,
@@ -59,8 +121,43 @@ fn read_into(
         prior.f,
         next,
         prior.clean,
+        sums,
         &mut symbols[at..to],
-    )
+    );
+    let verdict = n.verdict;
+    Reached {
+        mark: mark_of(verdict),
+        found: n.found,
+        start: n.start,
+        f: n.f,
+        clean: n.clean,
+    }
+}
+
+// A segment of k message symbols, whose message goes to a place of `symbols`.
+fn step(
+    s: &[u8],
+    prior: Reached,
+    marked: bool,
+    k: usize,
+    next: usize,
+    symbols: &mut [u8],
+    at: usize,
+) -> Reached
+    requires { ⌜ Below 4 (now s) ⌝ }
+    requires { ⌜ (prior .start ≤ length (now s)) × (length (now s) ≤ 4096) × (2 ≤ k) × (k ≤ 64) × (at + k ≤ length (now symbols)) ⌝ }
+    requires { ⌜ (next ≤ 256) × (next ≡ 1 → ⊥) × (prior .f < 4) ⌝ }
+    requires { ⌜ (prior .clean ≡ true → (marked ≡ true) × (R.clean k (prior .f) (drop (prior .start) (now s)) ≡ true)) ⌝ }
+    ensures { λ r. ⌜ IsReached (length (now (s .entry))) (stepOf (prior .found) marked (prior .f) k next (prior .start) (now (s .entry))) r ⌝ }
+    ensures { λ _. ⌜ now (symbols .exit) ≡ putAt (now (symbols .entry)) at (stepOf (prior .found) marked (prior .f) k next (prior .start) (now (s .entry)) .outcome .message) ⌝ }
+    ensures { λ r. ⌜ Known (now (s .entry)) next r ⌝ }
+{
+    let seen = seen_at(s, prior, marked, k, next);
+    let end = seen.end;
+    if end != 0 {
+        return put_standing(s, prior, marked, k, next, end, symbols, at);
+    }
+    read_into(s, prior, marked, k, next, seen.sums, symbols, at)
 }
 
 // The length behind the i-th, 0 for none.
@@ -90,8 +187,8 @@ pub fn read_layout(
     ensures { λ _. ⌜ now (marks .exit) ≡ marksOf (outcomes (now (lengths .entry)) (now (s .entry))) ⌝ }
     ensures { λ _. ⌜ now (ends .exit) ≡ endsFrom 0 (outcomes (now (lengths .entry)) (now (s .entry))) ⌝ }
 {
-    let mut prior = Next {
-        verdict: Verdict::NoStart,
+    let mut prior = Reached {
+        mark: 0,
         found: true,
         start: 0,
         f: 0,
@@ -101,9 +198,8 @@ pub fn read_layout(
     let mut i = 0;
     while i < lengths.len() {
         let k = lengths[i];
-        prior = read_into(s, prior, i != 0, k, next_length(lengths, i), symbols, at);
-        let verdict = prior.verdict;
-        marks[i] = mark_of(verdict);
+        prior = step(s, prior, i != 0, k, next_length(lengths, i), symbols, at);
+        marks[i] = prior.mark;
         ends[i] = prior.start;
         at += k;
         i += 1;

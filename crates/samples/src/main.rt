@@ -77,7 +77,7 @@ fn width(k: usize) {
 // The syndromes of both layers.
 fn syndromes(text: &[u8], message: &[u8]) {
     if 0 < message.len() {
-        if message.len() < 65536 {
+        if message.len() <= 256 {
             let sums = layers::sums(message);
             let s = layers::syndromes(message, sums.places);
             word(b"message ");

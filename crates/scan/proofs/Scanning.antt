@@ -21,7 +21,7 @@ use Rattle.compare.specs.OffsetsLaws.{scan-length, scan-at}
 use Rattle.compare.proofs.Standing.{block-begin, block-turn, block-stop, block-end}
 use Rattle.tail.specs.declared.Tail.{Tail}
 use Rattle.tail.specs.Tails.{mark, IsTail, tailOf}
-use Rattle.tail.proofs.Tails.{tail-length}
+use Rattle.tail.proofs.Tails.{tail-symbols, tail-length}
 use Rattle.standing.proofs.InPlace.{mark-fails, segment-seen}
 use Rattle.scan.specs.declared.Start.{Start}
 use Rattle.scan.specs.declared.Start.the-variants.{At, Nowhere}
@@ -86,7 +86,7 @@ module _ (k f : ℕ) (s : List ℕ) (at : ℕ) (found : Bool) (looked : found �
   unfolding clean
   marked e t tail =
       let q : at + 2 + k ≡ at + (2 + k) = omega arith in
-      segment-seen true f at s (at + 2) k t refl two tail ∙ rw (← looked, e, q)
+      segment-seen true f at s k two (at + 2) (tailOf t) refl (sym (tail-symbols (take k (drop (at + 2) s)) t tail)) ∙ rw (← looked, e, q)
 
 -- The tail against the symbols behind the message
 
@@ -128,7 +128,7 @@ pub size-is : (k : ℕ) → size true k ≡ 2 + (k + (4 + width k))
 unfolding size
 size-is k = refl
 
-pub width-small : (k : ℕ) → k ≤ 4000 → width k ≤ 16
+pub width-small : (k : ℕ) → k ≤ 256 → width k ≤ 16
 width-small k h = width-least k .least 16 (omega arith)
 
 -- the message as a part of the strand

@@ -21,7 +21,7 @@ use Rattle.scan.specs.Scans.{firstClean, startAt}
 use Rattle.scan.specs.ScansLaws.{clean-short}
 
 -- a segment's size is one that the search takes
-pub size-room : (marked : Bool) (k : ℕ) → 2 ≤ k → k ≤ 4000 → (8 ≤ size marked k) × (size marked k ≤ 4200)
+pub size-room : (marked : Bool) (k : ℕ) → 2 ≤ k → k ≤ 256 → (8 ≤ size marked k) × (size marked k ≤ 4200)
 unfolding size
 size-room true k h l = (omega (arith, width-two k h), omega (arith, width-least k .least 16 (omega arith)))
 size-room false k h l = (omega (arith, width-two k h), omega (arith, width-least k .least 16 (omega arith)))

@@ -41,7 +41,7 @@ pub fn find_clean(
 ) -> Start
     requires { ⌜ Below 4 (now s) ⌝ }
     requires { ⌜ (p ≤ length (now s)) × (length (now s) ≤ 4096) × (8 ≤ n) × (n ≤ 4200) ⌝ }
-    requires { ⌜ (2 ≤ k) × (k ≤ 4000) × (count ≤ 17) × (f < 4) ⌝ }
+    requires { ⌜ (2 ≤ k) × (k ≤ 256) × (count ≤ 17) × (f < 4) ⌝ }
     ensures { λ r. ⌜ r ≡ startAt p (firstClean k (letterBefore received f (drop p (now (s .entry)))) (drop p (now (s .entry))) (above (take count (n ∷ pairs n 1 8)))) ⌝ }
 {
     let size = size_of(true, k);

@@ -1,31 +1,23 @@
 -- A segment that is being written, by its parts.
---   put-step       one more symbol of a block
 --   Bits           the syndrome symbols that are written, from the last on
 --   mark-true, mark-false, mark-size   the marker, and a segment's length
---   put-both       two neighbouring blocks are one
 --   put-parts      marker, message and tail are the segment
 use mathlib.Core.Path.{_≡_, refl, sym, ap, _∙_}
 use mathlib.Core.Bool.{Bool, true, false}
 use mathlib.Core.List.{List, [], _∷_, _++_, append-assoc, append-nil}
 use Prim.Native.Nat.{ℕ, zero, suc, _+_, _-_, _*_, _/_, _<_, _≤_}
-use native.Mathlib.Numerals.{add-one}
 use native.Mathlib.Omega.{arith}
 use lib.Bits.{bitAnd}
 use lib.ListN.{length, getD, take, drop, set, length-append, length-set}
 use lib.Seq.{take-suc, length-take-le, set-at}
-use Rattle.code.specs.Lists.{putAt, put-nothing, put-one, put-put}
+use Rattle.code.specs.Lists.{putAt, put-nothing}
 use Rattle.code.specs.Layers.{pair, bits, width}
 use Rattle.code.specs.Segment.{sep, marker, segment, size}
+use Rattle.copying.proofs.Blocks.{put-both}
 use Rattle.tail.specs.declared.Tail.{Tail}
 use Rattle.tail.specs.Tails.{mark, IsTail, tailOf}
 use Rattle.tail.proofs.Steps.{bits-last}
 use Rattle.tail.proofs.Tails.{tail-symbols, marked-block}
-
--- one more symbol of a block
-pub put-step : (b d : List ℕ) (at i : ℕ) → i < length b → at + length b ≤ length d → set (putAt d at (take i b)) (at + i) (getD b i 0) ≡ putAt d at (take (i + 1) b)
-put-step b d at i h room =
-    let n : length (take i b) ≡ i = length-take-le i b (omega arith) in
-    rw (add-one i, take-suc b i 0 h) (rw n at (put-one d at (take i b) (omega arith) (getD b i 0) (omega arith)))
 
 -- one more symbol before a block
 put-before : (d b : List ℕ) (n v : ℕ) → n < length d → set (putAt d (suc n) b) n v ≡ putAt d n (v ∷ b)
@@ -87,10 +79,6 @@ pub mark-size : (marked : Bool) (f : ℕ) (m : List ℕ) → length (mark marked
 unfolding mark size
 mark-size true f m = refl
 mark-size false f m = refl
-
--- two neighbouring blocks are one
-pub put-both : (d b c : List ℕ) (at n : ℕ) → n ≡ at + length b → n ≤ length d → putAt (putAt d at b) n c ≡ putAt d at (b ++ c)
-put-both d b c at n e h = rw e (put-put d at b (omega arith) c)
 
 -- marker, message and tail, one behind the other, are the segment
 pub put-parts : (d o₁ o₂ m : List ℕ) (marked : Bool) (f at start : ℕ) (t : Tail) → IsTail m t → at + size marked (length m) ≤ length d → start ≡ at + length (mark marked f m) → o₁ ≡ putAt d at (mark marked f m) → o₂ ≡ putAt o₁ start m → putAt o₂ (start + length m) (tailOf t) ≡ putAt d at (segment marked f m)

@@ -1,4 +1,5 @@
 // Writing one segment: its marker, the message, and what follows the message.
+use copying::put;
 use tail::Tail;
 use tail::last_of;
 use tail::sep_of;
@@ -10,18 +11,6 @@ ghost use Rattle.code.specs.Lists.{putAt};
 ghost use Rattle.code.specs.Layers.{pair, bits};
 ghost use Rattle.code.specs.Segment.{segment, lastOf, size};
 ghost use Rattle.tail.specs.Tails.{mark, IsTail, tailOf};
-
-// A block of symbols at a place of `out`.
-fn put(block: &[u8], out: &mut [u8], at: usize)
-    requires { ⌜ at + length (now block) ≤ length (now out) ⌝ }
-    ensures { λ _. ⌜ now (out .exit) ≡ putAt (now (out .entry)) at (now (block .entry)) ⌝ }
-{
-    let mut i = 0;
-    while i < block.len() {
-        out[at + i] = block[i];
-        i += 1;
-    }
-}
 
 // The marker of a message at a place of `out`, where its segment has one; and the place behind it.
 fn put_marker(marked: bool, f: u8, message: &[u8], out: &mut [u8], at: usize) -> usize
@@ -65,7 +54,7 @@ fn put_tail(tail: Tail, out: &mut [u8], at: usize)
 // The segment of a message with its tail at a place of `out`; f is the last symbol of the segment before.
 pub fn put_segment(marked: bool, f: u8, message: &[u8], tail: Tail, out: &mut [u8], at: usize)
     requires { ⌜ IsTail (now message) tail ⌝ }
-    requires { ⌜ (f < 4) × (2 ≤ length (now message)) × (length (now message) ≤ 4096) × (at + size marked (length (now message)) ≤ length (now out)) ⌝ }
+    requires { ⌜ (f < 4) × (2 ≤ length (now message)) × (length (now message) ≤ 256) × (at + size marked (length (now message)) ≤ length (now out)) ⌝ }
     ensures { λ _. ⌜ now (out .exit) ≡ putAt (now (out .entry)) at (segment marked f (now (message .entry))) ⌝ }
 {
     let start = put_marker(marked, f, message, out, at);
@@ -75,7 +64,7 @@ pub fn put_segment(marked: bool, f: u8, message: &[u8], tail: Tail, out: &mut [u
 
 // The segment of a message at a place of `out`; f is the last symbol of the segment before, and the answer that of this one.
 pub fn write_segment(marked: bool, f: u8, message: &[u8], out: &mut [u8], at: usize) -> u8
-    requires { ⌜ (f < 4) × (2 ≤ length (now message)) × (length (now message) ≤ 4096) × (at + size marked (length (now message)) ≤ length (now out)) ⌝ }
+    requires { ⌜ (f < 4) × (2 ≤ length (now message)) × (length (now message) ≤ 256) × (at + size marked (length (now message)) ≤ length (now out)) ⌝ }
     ensures { λ r. ⌜ (now (out .exit) ≡ putAt (now (out .entry)) at (segment marked f (now (message .entry)))) × (r ≡ lastOf (now (message .entry))) ⌝ }
 {
     let tail = tail_of(message);

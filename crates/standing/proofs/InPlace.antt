@@ -1,10 +1,8 @@
--- A written segment stands where its parts do.
+-- Parts of a written segment, compared symbol by symbol.
 --   Left                          the answer is that of the syndrome symbols that are not yet compared
---   tail-seen                     check and separators, and the syndrome behind them
 --   marker-seen, no-marker        the marker
---   mark-fails, segment-seen      marker and tail
---   may-follow, may-last          where a segment may end
-use mathlib.Core.Path.{_≡_, refl, sym, ap, subst, _∙_}
+--   mark-fails, segment-seen      marker, and what follows the message
+use mathlib.Core.Path.{_≡_, refl, sym, ap, _∙_}
 use mathlib.Core.Bool.{Bool, true, false, true≢false, _&&_}
 use mathlib.Core.List.{List, [], _∷_, _++_}
 use Prim.Native.Nat.{ℕ, zero, suc, _+_, _-_, _*_, _/_, _≤_, _<_}
@@ -21,10 +19,9 @@ use Rattle.code.specs.SegmentLaws.{width-two}
 use Rattle.code.specs.Reading.{starts, dataAt}
 use Rattle.compare.proofs.Standing.{block-past}
 use Rattle.tail.specs.declared.Tail.{Tail}
-use Rattle.tail.specs.Tails.{mark, syndromeIn, IsTail, tailOf}
+use Rattle.tail.specs.Tails.{mark, syndromeIn, IsTail}
 use Rattle.tail.proofs.Steps.{bits-last}
-use Rattle.tail.proofs.Tails.{tail-symbols, tail-parts, marked-block, length-pairs}
-use Rattle.standing.specs.Ends.{mayEnd}
+use Rattle.tail.proofs.Tails.{marked-block, length-pairs}
 
 -- a block in two parts
 pub starts-append : (a b s : List ℕ) → starts (a ++ b) s ≡ (starts a s && starts b (drop (length a) s))
@@ -51,24 +48,6 @@ and-true false = refl
 and-false : (a : Bool) → (a && false) ≡ false
 and-false true = refl
 and-false false = refl
-
--- a test in two parts, and one more behind it
-module _ (both first second : Bool) (parts : both ≡ (first && second)) where
-  pub fails : first ≡ false → false ≡ both
-  fails e = sym (parts ∙ rw e)
-
-  pub holds : first ≡ true → (x : Bool) → x ≡ second → x ≡ both
-  holds e x f = f ∙ sym (parts ∙ rw e)
-
-  module _ (end : Bool) where
-    pub first-fails : first ≡ false → false ≡ (both && end)
-    first-fails e = rw (parts, e)
-
-    pub second-fails : first ≡ true → second ≡ false → false ≡ (both && end)
-    second-fails e f = rw (parts, e, f)
-
-    pub both-hold : first ≡ true → second ≡ true → (x : Bool) → x ≡ end → x ≡ (both && end)
-    both-hold e f x g = rw (parts, e, f) g
 
 -- too few symbols for a syndrome
 pub syndrome-past : (t : Tail) (s : List ℕ) (at : ℕ) → 0 < t .width → length s < at + t .width → starts (syndromeIn t) (drop at s) ≡ false
@@ -112,10 +91,6 @@ module _ (s : List ℕ) (at t high low : ℕ) where
     unfolding pair bits starts
     left-end z = let e : i ≡ 0 = omega arith in known .rest ∙ rw e
 
--- check and separators, and the syndrome behind them
-pub tail-seen : (t : Tail) (s : List ℕ) (at : ℕ) → starts (tailOf t) (drop at s) ≡ (starts (t .check ∷ t .separator ∷ t .separator ∷ t .separator ∷ []) (drop at s) && starts (syndromeIn t) (drop (at + 4) s))
-tail-seen t s at = ap (λ (w : List ℕ). starts w (drop at s)) (sym (tail-parts t)) ∙ (starts-append (t .check ∷ t .separator ∷ t .separator ∷ t .separator ∷ []) (syndromeIn t) (drop at s) ∙ rw (drop-drop 4 at s))
-
 -- a marker and two symbols behind it are inside
 pub marker-room : (marked : Bool) (p n : ℕ) → marked ≡ true → p + dataAt marked + 2 ≤ n → p + 4 ≤ n
 marker-room true p n e h = omega arith
@@ -136,7 +111,7 @@ module _ (marked : Bool) (f p : ℕ) (s : List ℕ) where
   unfolding mark starts
   no-marker e = rw e
 
-  -- the marker of the k symbols at D
+  -- the k symbols at D
   module _ (k : ℕ) (two : 2 ≤ k) where
     same-mark : (b : Bool) → mark b f (take k D) ≡ mark b f D
     unfolding mark marker
@@ -147,36 +122,28 @@ module _ (marked : Bool) (f p : ℕ) (s : List ℕ) where
     pub mark-fails : starts (mark marked f D) (drop p s) ≡ false → starts (segment marked f (take k D)) (drop p s) ≡ false
     mark-fails e = ap (λ (w : List ℕ). starts w (drop p s)) (sym (marked-block marked f (take k D))) ∙ (starts-append (mark marked f (take k D)) (block (take k D)) (drop p s) ∙ rw (same-mark marked, e))
 
-  -- the k symbols at D, with their tail
-  module _ (d k : ℕ) (t : Tail) (place : d ≡ p + dataAt marked) (two : 2 ≤ k) (tail : IsTail (take k (drop d s)) t) where
-    here : drop d s ≡ D
-    here = ap (λ (n : ℕ). drop n s) place ∙ sym (drop-drop (dataAt marked) p s)
-
     mark-length : (b : Bool) (l : List ℕ) → length (mark b f l) ≡ dataAt b
     unfolding mark
     mark-length true l = refl
     mark-length false l = refl
 
-    parts : segment marked f (take k D) ≡ mark marked f D ++ (take k D ++ tailOf t)
-    parts = sym (marked-block marked f (take k D)) ∙ rw (same-mark k two marked, ← tail-symbols (take k D) t (subst (λ (l : List ℕ). IsTail (take k l) t) here tail))
+    -- and t, what follows them in their segment
+    module _ (d : ℕ) (t : List ℕ) (place : d ≡ p + dataAt marked) (follows : block (take k (drop d s)) ≡ take k (drop d s) ++ t) where
+      here : drop d s ≡ D
+      here = ap (λ (n : ℕ). drop n s) place ∙ sym (drop-drop (dataAt marked) p s)
 
-    -- marker and tail
-    pub segment-seen : starts (segment marked f (take k D)) (drop p s) ≡ (starts (mark marked f D) (drop p s) && starts (tailOf t) (drop (d + k) s))
-    segment-seen =
-        let behind : drop k D ≡ drop (d + k) s = ap (drop k) (sym here) ∙ drop-drop k d s in
-        rw (parts, starts-append (mark marked f D) (take k D ++ tailOf t) (drop p s), mark-length marked D, starts-behind k D (tailOf t), behind)
+      parts : segment marked f (take k D) ≡ mark marked f D ++ (take k D ++ t)
+      parts = sym (marked-block marked f (take k D)) ∙ rw (same-mark marked, ← here, follows)
+
+      -- marker and tail
+      pub segment-seen : starts (segment marked f (take k D)) (drop p s) ≡ (starts (mark marked f D) (drop p s) && starts t (drop (d + k) s))
+      segment-seen =
+          let behind : drop k D ≡ drop (d + k) s = ap (drop k) (sym here) ∙ drop-drop k d s in
+          rw (parts, starts-append (mark marked f D) (take k D ++ t) (drop p s), mark-length marked D, starts-behind k D t, behind)
 
 -- a tail's width
-pub tail-room : (d k : ℕ) (s : List ℕ) (t : Tail) → 2 ≤ k → k ≤ 4096 → d + k ≤ length s → IsTail (take k (drop d s)) t → (0 < t .width) × (t .width ≤ 16)
+pub tail-room : (d k : ℕ) (s : List ℕ) (t : Tail) → 2 ≤ k → k ≤ 256 → d + k ≤ length s → IsTail (take k (drop d s)) t → (0 < t .width) × (t .width ≤ 16)
 tail-room d k s t two most room tail =
     let n : length (take k (drop d s)) ≡ k = length-take-le k (drop d s) (simp length-drop (omega arith)) in
     let w : t .width ≡ width k = tail .width ∙ ap width n in
     (omega (arith, width-two k two), omega (arith, width-least k .least 16 (omega arith)))
-
--- another is to follow, or the strand ends
-pub may-follow : (next end n : ℕ) → (next ≡ 0 → ⊥) → true ≡ mayEnd next end n
-may-follow zero end n h = absurd (h refl)
-may-follow (suc next) end n h = refl
-
-pub may-last : (next end n : ℕ) → next ≡ 0 → eqb end n ≡ mayEnd next end n
-may-last next end n e = rw e

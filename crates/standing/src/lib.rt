@@ -1,15 +1,13 @@
-// Whether a written segment, or a part of one, stands at a place.
+// Whether a part of a written segment stands at a place.
 use compare::tests::stands_at;
+use compare::tests::two_equal;
 use tail::Tail;
 use tail::sep_of;
 ghost use mathlib.Core.Path.{_≡_};
-ghost use mathlib.Core.Bool.{_&&_};
 ghost use Prim.Native.Nat.{_+_, _<_, _≤_};
-ghost use lib.ListN.{length, take, drop};
-ghost use Rattle.code.specs.Segment.{segment};
-ghost use Rattle.code.specs.Reading.{starts, dataAt};
-ghost use Rattle.tail.specs.Tails.{mark, syndromeIn, IsTail, tailOf};
-ghost use Rattle.standing.specs.Ends.{mayEnd};
+ghost use lib.ListN.{length, drop};
+ghost use Rattle.code.specs.Reading.{starts, whole, dataAt};
+ghost use Rattle.tail.specs.Tails.{mark, syndromeIn};
 
 // The syndrome symbols of a tail stand at the place.
 pub fn syndrome_at(tail: Tail, s: &[u8], at: usize) -> bool
@@ -33,16 +31,25 @@ pub fn syndrome_at(tail: Tail, s: &[u8], at: usize) -> bool
     true
 }
 
-// The symbols of a tail stand at the place.
-fn tail_stands(tail: Tail, s: &[u8], at: usize) -> bool
-    requires { ⌜ (at < 65000) × (0 < tail .width) × (tail .width ≤ 16) ⌝ }
-    ensures { λ r. ⌜ r ≡ starts (tailOf tail) (drop at (now (s .entry))) ⌝ }
+// D, from P.
+pub fn data_at(marked: bool) -> usize
+    ensures { λ r. ⌜ (r ≡ dataAt marked) × (r ≤ 2) ⌝ }
 {
-    let x = tail.separator;
-    if !stands_at(&[tail.check, x, x, x], s, at) {
-        return false;
+    if marked {
+        return 2;
     }
-    syndrome_at(tail, s, at + 4)
+    0
+}
+
+// Step 1: the marker of the segment at p is whole.
+pub fn is_whole(s: &[u8], p: usize, marked: bool) -> bool
+    requires { ⌜ p < 65536 ⌝ }
+    ensures { λ r. ⌜ r ≡ whole marked (drop p (now (s .entry))) ⌝ }
+{
+    if marked {
+        return two_equal(s, p);
+    }
+    true
 }
 
 // The marker of the message behind it stands at p, where a segment has one.
@@ -55,32 +62,4 @@ pub fn marker_stands(s: &[u8], p: usize, marked: bool, f: u8) -> bool
         return stands_at(&[m, m], s, p);
     }
     true
-}
-
-// The segment of the k symbols at d, whose tail is known, stands at p; and another is to follow it, or the strand ends with it.
-pub fn segment_stands(
-    s: &[u8],
-    p: usize,
-    marked: bool,
-    f: u8,
-    d: usize,
-    k: usize,
-    tail: Tail,
-    next: usize,
-) -> bool
-    requires { ⌜ (f < 4) × (2 ≤ k) × (k ≤ 4096) × (d ≡ p + dataAt marked) × (d + k ≤ length (now s)) × (length (now s) ≤ 4096) ⌝ }
-    requires { ⌜ IsTail (take k (drop d (now s))) tail ⌝ }
-    ensures { λ r. ⌜ r ≡ (starts (segment marked f (take k (drop (dataAt marked) (drop p (now (s .entry)))))) (drop p (now (s .entry))) && mayEnd next (d + k + (4 + tail .width)) (length (now (s .entry)))) ⌝ }
-{
-    if !marker_stands(s, p, marked, f) {
-        return false;
-    }
-    let to = d + k;
-    if !tail_stands(tail, s, to) {
-        return false;
-    }
-    if next != 0 {
-        return true;
-    }
-    to + (4 + tail.width) == s.len()
 }

@@ -38,7 +38,7 @@ pub fn sep_of(a: u8, b: u8, c: u8) -> u8
 
 // The check of a message: the sum of its symbols modulo 4.
 pub fn check_of(message: &[u8]) -> u8
-    requires { ⌜ length (now message) ≤ 4096 ⌝ }
+    requires { ⌜ length (now message) ≤ 256 ⌝ }
     ensures { λ r. ⌜ r ≡ check (now (message .entry)) ⌝ }
 {
     let mut sum: usize = 0;
@@ -74,7 +74,7 @@ pub fn symbol_in(tail: Tail, i: usize) -> u8
 
 // What follows a message whose check and sums of places are known.
 pub fn tail_with(message: &[u8], sums: Summed) -> Tail
-    requires { ⌜ (2 ≤ length (now message)) × (length (now message) ≤ 4096) × (sums ≡ sumsOf (now message)) ⌝ }
+    requires { ⌜ (2 ≤ length (now message)) × (length (now message) ≤ 256) × (sums ≡ sumsOf (now message)) ⌝ }
     ensures { λ r. ⌜ IsTail (now (message .entry)) r ⌝ }
 {
     let check = sums.check;
@@ -94,7 +94,7 @@ pub fn tail_with(message: &[u8], sums: Summed) -> Tail
 
 // What follows a message.
 pub fn tail_of(message: &[u8]) -> Tail
-    requires { ⌜ (2 ≤ length (now message)) × (length (now message) ≤ 4096) ⌝ }
+    requires { ⌜ (2 ≤ length (now message)) × (length (now message) ≤ 256) ⌝ }
     ensures { λ r. ⌜ IsTail (now (message .entry)) r ⌝ }
 {
     let sums = layers::sums(message);
@@ -103,7 +103,7 @@ pub fn tail_of(message: &[u8]) -> Tail
 
 // What follows a message whose syndrome symbols are known.
 pub fn tail_given(message: &[u8], written: &[u8]) -> Tail
-    requires { ⌜ (2 ≤ length (now message)) × (length (now message) ≤ 4096) × (now written ≡ syndromeOf (now message)) ⌝ }
+    requires { ⌜ (2 ≤ length (now message)) × (length (now message) ≤ 256) × (now written ≡ syndromeOf (now message)) ⌝ }
     ensures { λ r. ⌜ IsTail (now (message .entry)) r ⌝ }
 {
     let check = check_of(message);

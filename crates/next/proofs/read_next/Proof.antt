@@ -27,7 +27,7 @@ returns c =
     (r .0, (r .1, λ q. absurd (false≢true q)))
 
 read-segment-requires : tie.Need-read-segment-requires
-read-segment-requires c κs = search needs
+read-segment-requires c κs = let b = c .before .before .before .before in (b .pre .0, (b .pre .1 .0, (b .pre .1 .1 .0, (b .pre .1 .1 .1 .0, b .pre .1 .1 .1 .1 (not-false _ (c .before .if1 .left))))))
 
 enum-known-one : tie.Need-enum-known-one
 enum-known-one c = search needs
@@ -63,7 +63,7 @@ returns-3 c =
     let z = c .before .before .before .put-zeros2 in
     let l = c .after-lost in
     let o = c .before .before .before .before .before .before .one2 .given in
-    let m : length (g .last .1 .1 .1 .1 .1 .1 .0) ≡ length (a .out .now) = omega arith in
+    let m : length (g .last .1 .1 .1 .1 .1 .1 .1 .0) ≡ length (a .out .now) = omega arith in
     let n : length (z .last .0) ≡ length (a .out .now) = omega arith in
     let r = gives-lost (a .marked) (a .f) (length (a .out .now)) (a .next) (a .p) (a .s .now) _ (l .result) (g .result .one) (g .ensures .0) (a .found) (not-false _ (c .before .before .before .before .before .before .before .before .before .before .before .before .if1 .left)) _ (o .1) (subst (λ (i : ℕ). IsNext (length (a .s .now)) (afterLost i (a .p) (a .s .now) (o .0 .0) (scan (size (a .marked) i) (followers (a .next)) (drop (a .p) (a .s .now)) (drop (a .p) (a .s .now)))) (l .result)) n (l .ensures .0)) (z .ensures ∙ ap (λ (i : ℕ). replicate i 0) m) in
     (r .0, (r .1, l .ensures .1))

@@ -3,9 +3,9 @@ use mathlib.Core.List.{List, [], _∷_}
 use Prim.Native.Nat.{ℕ, _+_}
 use native.Mathlib.Omega.{arith}
 use Rattle.code.specs.Lists.{putAt}
+use Rattle.copying.proofs.Blocks.{put-both}
 use Rattle.tail.specs.Tails.{syndromeIn}
 use Rattle.tail.proofs.Tails.{tail-parts}
-use Rattle.segment.proofs.Parts.{put-both}
 use borrow.Author.Needs.{needs}
 use Rattle.segment.proofs.put_tail.Statement.{statement}
 use Rattle.segment.proofs.put_tail.Tie as tie

@@ -1,5 +1,5 @@
 use borrow.Author.Needs.{needs}
-use Rattle.compare.proofs.Moving.{sum-fits, sum-place, sum-moved}
+use Rattle.compare.proofs.Moving.{early-place, late-place, place-fits, place-unsigned, place-is}
 use Rattle.compare.proofs.offsets.moved_by.Statement.{statement}
 use Rattle.compare.proofs.offsets.moved_by.Tie as tie
 
@@ -10,6 +10,10 @@ moved-by-spec =
     (λ c. search needs)
     (λ c. search needs)
     (λ c. search needs)
-    (λ c. let a = c .before .args in sum-fits (a .n) (a .i) (c .before .pre .0) (c .before .pre .1) (c .before .pre .2))
-    (λ c. let a = c .before .args in sum-place (a .n) (a .i) (c .before .pre .0) (c .before .pre .1) (c .before .pre .2))
-    (λ c. let a = c .before .args in sum-moved (a .n) (a .i) (c .before .pre .0) (c .before .pre .1) (c .before .pre .2)))
+    (λ c. place-fits _ _ (c .before .pre) _ (early-place _ _ (c .before .pre) (c .if1 .taken)))
+    (λ c. place-unsigned _ _ (c .before .pre) _ (early-place _ _ (c .before .pre) (c .if1 .taken)))
+    (λ c. place-is _ _ (c .before .pre) _ (early-place _ _ (c .before .pre) (c .if1 .taken)))
+    (λ c. search needs)
+    (λ c. place-fits _ _ (c .before .pre) _ (late-place _ _ (c .before .pre) (c .if1 .left)))
+    (λ c. place-unsigned _ _ (c .before .pre) _ (late-place _ _ (c .before .pre) (c .if1 .left)))
+    (λ c. place-is _ _ (c .before .pre) _ (late-place _ _ (c .before .pre) (c .if1 .left))))

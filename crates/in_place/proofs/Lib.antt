@@ -1,0 +1,2 @@
+pub mod Sighting
+pub mod Syndromes

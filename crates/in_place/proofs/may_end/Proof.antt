@@ -1,0 +1,11 @@
+use native.Mathlib.Omega.{arith}
+use Rattle.in_place.proofs.Sighting.{may-follow, may-last}
+use Rattle.in_place.proofs.may_end.Statement.{statement}
+use Rattle.in_place.proofs.may_end.Tie as tie
+
+pub may-end-spec : {M : Type 1} → statement M
+may-end-spec =
+    tie.close
+    (tie.spec
+    (λ c. let a = c .before .args in may-follow (a .next) (a .end) (a .n) (c .if1 .taken))
+    (λ c. let a = c .before .args in may-last (a .next) (a .end) (a .n) (omega arith)))
