@@ -11,15 +11,13 @@ ghost use mathlib.Core.Path.{_≡_};
 ghost use mathlib.Core.Bool.{true, false};
 ghost use Prim.Native.Nat.{_+_, _<_, _≤_};
 ghost use lib.ListN.{length, drop};
-ghost use Rattle.code.specs.Lists.{putAt};
 ghost use Rattle.code.specs.Symbols.{Below};
 ghost use Rattle.code.specs.Layout.{sum};
 ghost use Rattle.code.specs.Reading as R;
 ghost use Rattle.code.specs.Strands.{markOf, outcomes, messagesOf, marksOf};
-ghost use Rattle.next.specs.Steps.{stepOf};
 ghost use Rattle.reading.specs.StepsLaws.{nextOf};
 ghost use Rattle.in_place.specs.Sights.{SumsAt};
-ghost use Rattle.reading.specs.Walks.{endFor, IsReached, Known, Within, endsFrom};
+ghost use Rattle.reading.specs.Walks.{endFor, Stepped, Within, endsFrom};
 
 // The mark of a verdict.
 fn mark_of(v: Verdict) -> u8
@@ -76,9 +74,7 @@ fn put_standing(
     requires { ⌜ Below 4 (now s) ⌝ }
     requires { ⌜ (prior .start ≤ length (now s)) × (length (now s) ≤ 4096) × (2 ≤ k) × (k ≤ 64) × (at + k ≤ length (now symbols)) ⌝ }
     requires { ⌜ (end ≡ endFor prior marked k next (now s)) × (end ≡ 0 → ⊥) ⌝ }
-    ensures { λ r. ⌜ IsReached (length (now (s .entry))) (stepOf (prior .found) marked (prior .f) k next (prior .start) (now (s .entry))) r ⌝ }
-    ensures { λ _. ⌜ now (symbols .exit) ≡ putAt (now (symbols .entry)) at (stepOf (prior .found) marked (prior .f) k next (prior .start) (now (s .entry)) .outcome .message) ⌝ }
-    ensures { λ r. ⌜ Known (now (s .entry)) next r ⌝ }
+    ensures { λ r. ⌜ Stepped prior marked k next (now (s .entry)) at (now (symbols .entry)) (now (symbols .exit)) r ⌝ }
 {
     let from = prior.start + data_at(marked);
     let to = at + k;
@@ -108,9 +104,7 @@ fn read_into(
     requires { ⌜ (next ≤ 256) × (next ≡ 1 → ⊥) × (prior .f < 4) ⌝ }
     requires { ⌜ (prior .clean ≡ true → (marked ≡ true) × (R.clean k (prior .f) (drop (prior .start) (now s)) ≡ true)) ⌝ }
     requires { ⌜ (prior .found ≡ true → prior .clean ≡ false → SumsAt marked k (prior .start) (now s) sums) ⌝ }
-    ensures { λ r. ⌜ IsReached (length (now (s .entry))) (stepOf (prior .found) marked (prior .f) k next (prior .start) (now (s .entry))) r ⌝ }
-    ensures { λ _. ⌜ now (symbols .exit) ≡ putAt (now (symbols .entry)) at (stepOf (prior .found) marked (prior .f) k next (prior .start) (now (s .entry)) .outcome .message) ⌝ }
-    ensures { λ r. ⌜ Known (now (s .entry)) next r ⌝ }
+    ensures { λ r. ⌜ Stepped prior marked k next (now (s .entry)) at (now (symbols .entry)) (now (symbols .exit)) r ⌝ }
 {
     let to = at + k;
     let n = read_next(
@@ -148,9 +142,7 @@ fn step(
     requires { ⌜ (prior .start ≤ length (now s)) × (length (now s) ≤ 4096) × (2 ≤ k) × (k ≤ 64) × (at + k ≤ length (now symbols)) ⌝ }
     requires { ⌜ (next ≤ 256) × (next ≡ 1 → ⊥) × (prior .f < 4) ⌝ }
     requires { ⌜ (prior .clean ≡ true → (marked ≡ true) × (R.clean k (prior .f) (drop (prior .start) (now s)) ≡ true)) ⌝ }
-    ensures { λ r. ⌜ IsReached (length (now (s .entry))) (stepOf (prior .found) marked (prior .f) k next (prior .start) (now (s .entry))) r ⌝ }
-    ensures { λ _. ⌜ now (symbols .exit) ≡ putAt (now (symbols .entry)) at (stepOf (prior .found) marked (prior .f) k next (prior .start) (now (s .entry)) .outcome .message) ⌝ }
-    ensures { λ r. ⌜ Known (now (s .entry)) next r ⌝ }
+    ensures { λ r. ⌜ Stepped prior marked k next (now (s .entry)) at (now (symbols .entry)) (now (symbols .exit)) r ⌝ }
 {
     let seen = seen_at(s, prior, marked, k, next);
     let end = seen.end;

@@ -39,7 +39,7 @@ returns c =
     let o : y ≡ take (a .k) (drop d (a .s .now)) = g .ensures ∙ ap (λ (i : ℕ). take i (drop d (a .s .now))) n in
     let l : length y ≡ a .k = omega (arith, n) in
     let w = stands-next (a .prior) (a .marked) (a .k) (a .next) d (a .end) (a .s .now) (b .pre .1 .0 .2) (b .pre .0) (ap (_+_ (a .prior .start)) (c .before .before .before .before .before .before .data-at .ensures .0)) (b .pre .1 .0 .0) e y o in
-    (reached _ _ _ _ (w .0) refl refl refl refl, (part-put (a .at) (a .k) (a .symbols .now) y _ (w .1) l, λ q. absurd (false≢true q)))
+    (reached _ _ _ _ (w .0) refl refl refl refl, part-put (a .at) (a .k) (a .symbols .now) y _ (w .1) l, λ q. absurd (false≢true q))
 
 pub put-standing-spec : {M : Type 1} → statement M
 put-standing-spec =

@@ -28,7 +28,8 @@ returns c =
     let n = part-length (a .at) (a .k) (a .symbols .now) (search needs) in
     let l : length y ≡ a .k = omega (arith, n) in (
       reached _ _ (g .result) _ (subst (λ (i : ℕ). IsNext (length (a .s .now)) (t i) (g .result)) n (g .ensures .0)) (c .mark-of .ensures) refl refl refl,
-      (part-put (a .at) (a .k) (a .symbols .now) y _ (subst (λ (i : ℕ). y ≡ t i .outcome .message) n (g .ensures .1 .0)) l, g .ensures .1 .1),
+      part-put (a .at) (a .k) (a .symbols .now) y _ (subst (λ (i : ℕ). y ≡ t i .outcome .message) n (g .ensures .1 .0)) l,
+      g .ensures .1 .1,
     )
 
 pub read-into-spec : {M : Type 1} → statement M

@@ -76,7 +76,7 @@ loop-again c =
     let n = c .before .before .before .before .next-length .ensures in
     let g = c .before .before .step in
     let t : ℕ → Step = λ x. stepOf (l .prior .found) (not (eqb (l .i) 0)) (l .prior .f) (getD (a .lengths .now) (l .i) 0) x (l .prior .start) (a .s .now) in
-    walk-turn (a .lengths .now) (a .s .now) (l .symbols) (l .marks) (l .ends) (l .prior) (g .result) (l .at) (l .i) (getD (a .lengths .now) (l .i) 0) (l .inv) i refl (k .0) b (subst (λ (x : ℕ). IsReached (length (a .s .now)) (t x) (g .result)) n (g .ensures .0)) (subst (λ (x : ℕ). Known (a .s .now) x (g .result)) n (g .ensures .1 .1)) _ (g .ensures .1 .0 ∙ ap (λ (x : ℕ). putAt (l .symbols) (l .at) (t x .outcome .message)) n)
+    walk-turn (a .lengths .now) (a .s .now) (l .symbols) (l .marks) (l .ends) (l .prior) (g .result) (l .at) (l .i) (getD (a .lengths .now) (l .i) 0) (l .inv) i refl (k .0) b (subst (λ (x : ℕ). IsReached (length (a .s .now)) (t x) (g .result)) n (g .ensures .0)) (subst (λ (x : ℕ). Known (a .s .now) x (g .result)) n (g .ensures .2)) _ (g .ensures .1 ∙ ap (λ (x : ℕ). putAt (l .symbols) (l .at) (t x .outcome .message)) n)
 
 returns : tie.Need-returns Inv-loop μ-loop
 returns c =
