@@ -1,6 +1,4 @@
-//! Letters written and read a second: the library against two rivals in Rust.
-//!
-//! steps.rs is the independent reader tuned by hand, which keeps the reading steps; tuned.rs is bound by nothing but its answers.
+//! Letters written and read a second: the library against the tuned rival.
 
 #[allow(dead_code)]
 #[path = "../tests/outside/ffi.rs"]
@@ -8,7 +6,6 @@ mod ffi;
 #[allow(dead_code)]
 #[path = "../tests/outside/strands.rs"]
 mod strands;
-mod steps;
 #[allow(dead_code)]
 mod tuned;
 
@@ -26,11 +23,8 @@ const ROUND_LETTERS: usize = 100_000;
 #[derive(Clone, Copy, PartialEq, Eq)]
 enum Side {
     Library,
-    Steps,
     Tuned,
 }
-
-const SIDES: [Side; 3] = [Side::Library, Side::Steps, Side::Tuned];
 
 /// The lent buffers of one side.
 struct Room {
@@ -59,7 +53,6 @@ fn write_one(side: Side, k: u32, b: u32, message: &[u8], room: &mut Room) -> usi
             let got = unsafe { ffi::dnalm_write(k, b, message_ptr, message_len, out_ptr, out_len) };
             got.letters
         }
-        Side::Steps => steps::write(k, b, message, out).unwrap_or(0),
         Side::Tuned => tuned::write(k, b, message, out).unwrap_or(0),
     }
 }
@@ -83,7 +76,6 @@ fn read_one(side: Side, k: u32, b: u32, letters: &[u8], room: &mut Room) -> [u32
             };
             [got.clean, got.corrected, got.lost]
         }
-        Side::Steps => steps::read(k, b, letters, message, sheet).unwrap_or([0; 3]),
         Side::Tuned => tuned::read(k, b, letters, message, sheet).unwrap_or([0; 3]),
     }
 }
@@ -155,16 +147,16 @@ fn pass(side: Side, job: Job, set: &Set, room: &mut Room) {
     black_box(room);
 }
 
-/// A rival gives the library's answers on the set.
-fn agree(rival: Side, job: Job, set: &Set) {
+/// Both sides give the same answers on the set.
+fn agree(job: Job, set: &Set) {
     let (mut one, mut other) = (Room::new(), Room::new());
     for (message, strand) in set.messages.iter().zip(&set.strands) {
         let same = if job == Job::Write {
             write_one(Side::Library, set.k, set.b, message, &mut one)
-                == write_one(rival, set.k, set.b, message, &mut other)
+                == write_one(Side::Tuned, set.k, set.b, message, &mut other)
         } else {
             read_one(Side::Library, set.k, set.b, strand, &mut one)
-                == read_one(rival, set.k, set.b, strand, &mut other)
+                == read_one(Side::Tuned, set.k, set.b, strand, &mut other)
         };
         if !same
             || one.strand != other.strand
@@ -177,49 +169,45 @@ fn agree(rival: Side, job: Job, set: &Set) {
     }
 }
 
-/// What was measured of the three sides.
+/// What was measured of both sides.
 struct Measured {
     /// Letters a second in the best round, in millions.
-    best: [f64; 3],
-    /// The medians of the library's speed over a rival's in the same round.
-    ratios: [f64; 2],
+    best: [f64; 2],
+    /// The median of the ratios of neighbouring rounds.
+    ratio: f64,
 }
 
 fn measure(job: Job, set: &Set) -> Measured {
     let letters: usize = set.strands.iter().map(Vec::len).sum();
     let passes = ROUND_LETTERS / letters.max(1) + 1;
     let mut room = Room::new();
-    let mut best = [0f64; 3];
-    let mut ratios = [Vec::new(), Vec::new()];
+    let sides = [Side::Library, Side::Tuned];
+    let mut best = [0f64; 2];
+    let mut ratios = Vec::new();
     for round in 0..ROUNDS {
-        let mut speeds = [0f64; 3];
-        for turn in 0..3 {
-            let which = (turn + round) % 3;
+        let mut speeds = [0f64; 2];
+        for turn in 0..2 {
+            let which = (turn + round) % 2;
             let start = Instant::now();
             for _ in 0..passes {
-                pass(SIDES[which], job, set, &mut room);
+                pass(sides[which], job, set, &mut room);
             }
             let seconds = start.elapsed().as_secs_f64();
             speeds[which] = (letters * passes) as f64 / seconds / 1e6;
             best[which] = best[which].max(speeds[which]);
         }
-        for rival in 0..2 {
-            ratios[rival].push(speeds[0] / speeds[rival + 1]);
-        }
+        ratios.push(speeds[0] / speeds[1]);
     }
-    let ratios = ratios.map(|mut all: Vec<f64>| {
-        all.sort_by(f64::total_cmp);
-        all[ROUNDS / 2]
-    });
-    Measured { best, ratios }
+    ratios.sort_by(f64::total_cmp);
+    Measured {
+        best,
+        ratio: ratios[ROUNDS / 2],
+    }
 }
 
 fn table() {
-    println!("million letters a second, best of {ROUNDS} rounds; library/rival, median");
-    println!(
-        "{:<26} {:>8} {:>8} {:>6} {:>8} {:>6}",
-        "", "library", "steps", "ratio", "tuned", "ratio"
-    );
+    println!("million letters a second, best of {ROUNDS} rounds; ratio library/tuned, median");
+    println!("{:<28} {:>9} {:>9} {:>7}", "", "library", "tuned", "ratio");
     for (k, b) in [(16, 32), (64, 128), (8, 128), (2, 1)] {
         for (name, job) in [
             ("write", Job::Write),
@@ -228,14 +216,11 @@ fn table() {
             ("read damaged", Job::Damaged),
         ] {
             let set = set(job, k, b);
-            agree(Side::Steps, job, &set);
-            agree(Side::Tuned, job, &set);
-            let Measured { best, ratios } = measure(job, &set);
+            agree(job, &set);
+            let measured = measure(job, &set);
             let row = format!("k={k} B={b} {name}");
-            println!(
-                "{row:<26} {:>8.0} {:>8.0} {:>6.2} {:>8.0} {:>6.2}",
-                best[0], best[1], ratios[0], best[2], ratios[1]
-            );
+            let ([library, rival], ratio) = (measured.best, measured.ratio);
+            println!("{row:<28} {library:>9.1} {rival:>9.1} {ratio:>7.2}");
         }
     }
 }
@@ -253,7 +238,6 @@ fn work(side: &str, b: u32, count: usize) {
         letters += strand.len();
         match side {
             "library" => black_box(read_one(Side::Library, k, b, black_box(strand), &mut room)),
-            "steps" => black_box(read_one(Side::Steps, k, b, black_box(strand), &mut room)),
             "tuned" => black_box(read_one(Side::Tuned, k, b, black_box(strand), &mut room)),
             "none" => [0; 3],
             _ => usage(),
@@ -263,7 +247,7 @@ fn work(side: &str, b: u32, count: usize) {
 }
 
 fn usage() -> ! {
-    eprintln!("usage: bench | bench work library|steps|tuned|none B N");
+    eprintln!("usage: bench | bench work library|tuned|none B N");
     exit(2);
 }
 

@@ -1,6 +1,6 @@
-//! Reader and writer of DNA-LM strands tuned for speed in safe Rust, a byte for each symbol.
-//!
-//! A symbol stays the letter it came as: bit 1 of A, T, C and G is its high bit, bit 2 its low bit.
+//! The independent reader and writer of DNA-LM strands, tuned by hand: safe Rust, no allocation.
+//! It keeps the ten reading steps of document 01, the symbols of the strand in an array of 2,048,
+//! and a verdict for each segment, from which mark, sheet and counts are taken.
 
 /// A refusal by its number in the table; the place is given for 6 alone.
 #[derive(Clone, Copy, Debug, PartialEq, Eq)]
@@ -9,785 +9,1157 @@ pub struct Refused {
     pub place: usize,
 }
 
-const LONGEST: usize = 2048;
+/// What was done to a segment on the way; places are those of the written segment.
+#[allow(dead_code)]
+#[derive(Clone, Copy, Debug, PartialEq, Eq)]
+enum Edit {
+    None,
+    Sub { place: usize, symbol: u8 },
+    Del { place: usize, symbol: u8 },
+    Ins { place: usize, symbol: u8 },
+}
 
-/// The bits of a letter that belong to the layers.
-const HIGH: u8 = 2;
-const LOW: u8 = 4;
+/// The reader's verdict on one segment.
+#[allow(dead_code)]
+#[derive(Clone, Copy, Debug, PartialEq, Eq)]
+enum Verdict {
+    Read(Edit),
+    Lost { step: u32 },
+    NoStart,
+}
 
-/// The letters by symbol.
-const LETTERS: [u8; 4] = *b"ATCG";
+/// A one in each byte; eight symbols are worked on in one number.
+const ONES: u64 = 0x0101_0101_0101_0101;
+/// The weights 1 to 8 for the bytes of a number, first byte first, as a factor.
+const WEIGHTS_1: u64 = 0x0102_0304_0506_0708;
+/// The weights 9 to 16.
+const WEIGHTS_9: u64 = 0x090A_0B0C_0D0E_0F10;
+/// Brings the bytes of a number, each 0 or 1, into its highest byte as bits, first byte lowest.
+const WEIGHT_BITS: u64 = 0x0102_0408_1020_4080;
+/// The moves of a scan.
+const MOVES: [isize; 17] = [0, -1, 1, -2, 2, -3, 3, -4, 4, -5, 5, -6, 6, -7, 7, -8, 8];
+/// Stands in the array for each place past the strand's end.
+const PAST: u8 = 4;
+/// A segment with a letter more, and what is loaded behind it.
+const WINDOW: usize = 96;
+/// The window behind the marker.
+const BODY: usize = WINDOW - 2;
+/// The most numbers of eight symbols behind the marker: eight of the message, two more of the tail.
+const CHUNKS: usize = 10;
 
-/// The letters by their bits 2 and 1.
-const BY_BITS: [u8; 4] = *b"ACTG";
+/// The numbers that follow from k; a message takes C numbers of eight symbols.
+struct Shape<const K: usize, const C: usize>;
 
-/// The letter of Sep by the bits of three letters.
+impl<const K: usize, const C: usize> Shape<K, C> {
+    const CYCLE: u32 = 2 * K as u32;
+    const T: usize = (u32::BITS - (Self::CYCLE - 1).leading_zeros()) as usize;
+    /// The length of a segment behind its marker.
+    const BODY: usize = K + Self::T + 4;
+    /// Keeps the message's symbols of its last number.
+    const KEEP: u64 = u64::MAX >> (8 * (8 * C - K));
+    /// Keeps t symbols.
+    const KEEP_T: u64 = (1 << (8 * Self::T)) - 1;
+    /// Brings seven syndrome symbols down to t.
+    const NARROW: usize = 7 - Self::T;
+}
+
+/// Calls a function for k with K and C as constants.
+macro_rules! by_k {
+    ($k:expr, $call:ident $arguments:tt) => {
+        by_k! { @ $k, $call $arguments,
+            1: 2 3 4 5 6 7 8,
+            2: 9 10 11 12 13 14 15 16,
+            3: 17 18 19 20 21 22 23 24,
+            4: 25 26 27 28 29 30 31 32,
+            5: 33 34 35 36 37 38 39 40,
+            6: 41 42 43 44 45 46 47 48,
+            7: 49 50 51 52 53 54 55 56,
+            8: 57 58 59 60 61 62 63 64
+        }
+    };
+    (@ $k:expr, $call:ident $arguments:tt, $($c:literal: $($of:literal)*),*) => {
+        match $k {
+            $($($of => by_k!(@ $call, $of, $c, $arguments),)*)*
+            _ => return refuse(1),
+        }
+    };
+    (@ $call:ident, $of:literal, $c:literal, ($($argument:expr),*)) => {
+        $call::<$of, $c>($($argument),*)
+    };
+}
+
+const fn sep(a: u8, b: u8, c: u8) -> u8 {
+    let s = (a + 2) % 4;
+    if s != b && s != c {
+        return s;
+    }
+    let s = (a + 3) % 4;
+    if s != b && s != c {
+        return s;
+    }
+    (a + 1) % 4
+}
+
+/// Sep of the three symbols of its index.
 static SEP: [u8; 64] = {
     let mut table = [0; 64];
     let mut i = 0;
     while i < 64 {
-        let (a, b, c) = (i >> 4, i >> 2 & 3, i & 3);
-        let (x, y) = ((a + 2) & 3, (a + 3) & 3);
-        let s = if x != b && x != c {
-            x
-        } else if y != b && y != c {
-            y
-        } else {
-            (a + 1) & 3
-        };
-        let [a, b, c] = [LETTERS[a], LETTERS[b], LETTERS[c]];
-        table[bits(a, b, c)] = LETTERS[s];
+        table[i] = sep((i >> 4) as u8, (i >> 2 & 3) as u8, (i & 3) as u8);
         i += 1;
     }
     table
 };
 
-/// A letter's symbol, moved to each of the four places in a byte.
-static MOVED: [[u8; 256]; 4] = {
-    let mut table = [[0; 256]; 4];
-    let mut i = 0;
-    while i < 16 {
-        table[i / 4][LETTERS[i % 4] as usize] = (i as u8 % 4) << (6 - 2 * (i / 4));
-        i += 1;
+/// The seven bits of the index as bytes, most significant first.
+static BITS: [u64; 128] = {
+    let mut table = [0; 128];
+    let mut v = 0;
+    while v < 128 {
+        let mut i = 0;
+        while i < 7 {
+            table[v] |= (v as u64 >> (6 - i) & 1) << (8 * i);
+            i += 1;
+        }
+        v += 1;
     }
     table
 };
 
-/// The four letters of a byte.
-static FOUR: [[u8; 4]; 256] = {
-    let mut table = [[0; 4]; 256];
-    let mut i = 0;
-    while i < 1024 {
-        table[i / 4][i % 4] = LETTERS[i / 4 >> (6 - 2 * (i % 4)) & 3];
-        i += 1;
-    }
-    table
-};
-
-/// A letter's bits, the high one sixteen places above the low one.
-static BITS: [u32; 256] = {
-    let mut table = [0; 256];
-    let mut i = 0;
-    while i < 4 {
-        table[LETTERS[i] as usize] = (i as u32 & 2) << 15 | i as u32 & 1;
-        i += 1;
-    }
-    table
-};
-
-/// The letter of two bits, the high one eight places above the low one.
-static PAIRED: [u8; 258] = {
-    let mut table = [0; 258];
-    let mut i = 0;
-    while i < 4 {
-        table[(i & 2) << 7 | i & 1] = LETTERS[i];
-        i += 1;
-    }
-    table
-};
-
-/// The places of a message's symbols, by eight.
-static PLACES: [[u8; 8]; 8] = {
-    let mut table = [[0; 8]; 8];
-    let mut i = 0;
-    while i < 64 {
-        table[i / 8][i % 8] = i as u8 + 1;
-        i += 1;
-    }
-    table
-};
-
-/// Reciprocals of 2k, rounded up, in units of 2^-20.
-static INVERSE: [u32; 65] = {
-    let mut table = [0; 65];
-    let mut k = 1;
-    while k < 65 {
-        table[k] = (1 << 20) / (2 * k as u32) + 1;
+/// Factors that divide by the index, of numbers up to 512.
+static INVERSES: [u64; 128] = {
+    let mut table = [0; 128];
+    let mut k = 2;
+    while k <= 64 {
+        table[k] = (1 << 32) / k as u64 + 1;
         k += 1;
     }
     table
 };
 
-struct Layout {
-    k: usize,
-    b: usize,
-    l: usize,
-    t: usize,
-    /// 2k and its reciprocal.
-    modulus: u32,
-    inverse: u32,
-    /// The lower t bits of two values, sixteen places apart.
-    mask: u32,
+const LETTERS: [u8; 4] = *b"ATCG";
+
+/// The four letters of a byte.
+static FOUR: [[u8; 4]; 256] = {
+    let mut table = [[0; 4]; 256];
+    let mut v = 0;
+    while v < 256 {
+        let mut i = 0;
+        while i < 4 {
+            table[v][i] = LETTERS[v >> (6 - 2 * i) & 3];
+            i += 1;
+        }
+        v += 1;
+    }
+    table
+};
+
+/// Of a byte's four symbols, 16 bits each: high places, low places (from 1), high ones, low ones.
+static FOUR_SUMS: [u64; 256] = {
+    let mut table = [0; 256];
+    let mut v = 0;
+    while v < 256 {
+        let mut i = 0;
+        while i < 4 {
+            let symbol = v as u64 >> (6 - 2 * i) & 3;
+            let both = (symbol >> 1) << 16 | (symbol & 1);
+            table[v] += (both * (i + 1)) << 32 | both;
+            i += 1;
+        }
+        v += 1;
+    }
+    table
+};
+
+/// Check and separator in letters, by check and the first two syndrome symbols.
+static CHECK_SEP: [[u8; 4]; 64] = {
+    let mut table = [[0; 4]; 64];
+    let mut i = 0;
+    while i < 64 {
+        let s = LETTERS[SEP[i] as usize];
+        table[i] = [LETTERS[i >> 4], s, s, s];
+        i += 1;
+    }
+    table
+};
+
+/// The same in symbols, first byte first.
+static CHECK_SEP_SYMBOLS: [u32; 64] = {
+    let mut table = [0; 64];
+    let mut i = 0;
+    while i < 64 {
+        table[i] = i as u32 >> 4 | SEP[i] as u32 * 0x0101_0100;
+        i += 1;
+    }
+    table
+};
+
+/// Ones, then zeros: a part of it keeps the bytes before a place.
+static BEFORE: [u8; 176] = {
+    let mut table = [0; 176];
+    let mut i = 0;
+    while i < 88 {
+        table[i] = 0xFF;
+        i += 1;
+    }
+    table
+};
+
+/// The numbers that keep the bytes before a place.
+#[inline(always)]
+fn before(place: usize) -> &'static [u8] {
+    &BEFORE[88 - place..][..8 * CHUNKS]
 }
 
 #[inline(always)]
+fn eight(bytes: &[u8], at: usize) -> u64 {
+    match bytes[at..].first_chunk::<8>() {
+        Some(eight) => u64::from_le_bytes(*eight),
+        None => 0,
+    }
+}
+
+/// The weighted sum of the bytes, where it is below 256.
+#[inline(always)]
+fn weighted(x: u64, weights: u64) -> u32 {
+    (x.wrapping_mul(weights) >> 56) as u32
+}
+
+/// The sum of the bytes, where it is below 256.
+#[inline(always)]
+fn total(x: u64) -> u32 {
+    weighted(x, ONES)
+}
+
 fn refuse<T>(number: u32) -> Result<T, Refused> {
     Err(Refused { number, place: 0 })
 }
 
+/// Tests 1, 2 and 3; hands back the number of segments.
 #[inline(always)]
-fn layout(k: u32, b: u32, length_fits: bool) -> Result<Layout, Refused> {
-    if k.wrapping_sub(2) > 62 {
+fn segments_of(k: u32, b: u32, length: Option<usize>) -> Result<usize, Refused> {
+    if !(2..=64).contains(&k) {
         return refuse(1);
     }
-    if b.wrapping_sub(1) > 127 || !length_fits {
+    if !(1..=128).contains(&b) || length.is_some_and(|length| length != b as usize) {
         return refuse(2);
     }
-    let inverse = INVERSE[k as usize];
-    let l = (8 * b * inverse) >> 20;
+    let l = (4 * b as u64 * INVERSES[k as usize & 127] >> 32) as u32;
     if l * k != 4 * b || l > 64 {
         return refuse(3);
     }
-    let t = 32 - (2 * k - 1).leading_zeros();
-    Ok(Layout {
-        k: k as usize,
-        b: b as usize,
-        l: l as usize,
-        t: t as usize,
-        modulus: 2 * k,
-        inverse,
-        mask: ((1 << t) - 1) * 0x10001,
-    })
-}
-
-impl Layout {
-    /// A sum of places modulo 2k; exact for every sum below 2^13.
-    #[inline(always)]
-    fn reduce(&self, sum: u32) -> u32 {
-        sum - ((sum * self.inverse) >> 20) * self.modulus
-    }
-
-    /// Both syndromes, the high one sixteen places above the low one.
-    #[inline(always)]
-    fn syndromes(&self, all: Sums) -> u32 {
-        self.reduce(all.high) << 16 | self.reduce(all.low)
-    }
-}
-
-#[inline(always)]
-const fn bits(a: u8, b: u8, c: u8) -> usize {
-    ((a & 6) << 3 | (b & 6) << 1 | (c & 6) >> 1) as usize
-}
-
-#[inline(always)]
-fn sep(a: u8, b: u8, c: u8) -> u8 {
-    SEP[bits(a, b, c)]
-}
-
-#[inline(always)]
-fn symbol(letter: u8) -> u32 {
-    MOVED[3][letter as usize] as u32
-}
-
-#[inline(always)]
-fn letter(symbol: u32) -> u8 {
-    LETTERS[(symbol & 3) as usize]
-}
-
-/// Sums of places of both layers, and of the symbols.
-#[derive(Clone, Copy)]
-struct Sums {
-    high: u32,
-    low: u32,
-    check: u32,
-}
-
-impl Sums {
-    #[inline(always)]
-    fn and(self, more: Sums) -> Sums {
-        Sums {
-            high: self.high + more.high,
-            low: self.low + more.low,
-            check: self.check + more.check,
-        }
-    }
-}
-
-/// Adds symbols to the three sums, each in a lane of its own.
-#[inline(always)]
-fn add<const N: usize>(x: &[u8; N], places: &[u8; N], lanes: &mut [[u8; N]; 3]) {
-    let [highs, lows, checks] = lanes;
-    for i in 0..N {
-        let (high, low) = (x[i] >> 1 & 1, x[i] >> 2 & 1);
-        highs[i] += high.wrapping_neg() & places[i];
-        lows[i] += low.wrapping_neg() & places[i];
-        checks[i] += high + high + low;
-    }
-}
-
-#[inline(always)]
-fn total<const N: usize>([highs, lows, checks]: [[u8; N]; 3]) -> Sums {
-    Sums {
-        high: highs.iter().map(|&x| x as u32).sum(),
-        low: lows.iter().map(|&x| x as u32).sum(),
-        check: checks.iter().sum::<u8>() as u32,
-    }
-}
-
-/// Sums of few symbols, one by one, after so many places.
-#[inline(always)]
-fn few(x: &[u8], mut place: u32) -> Sums {
-    let (mut sums, mut ones) = (0, 0);
-    for &x in x {
-        place += 1;
-        sums += BITS[x as usize] * place;
-        ones += BITS[x as usize];
-    }
-    Sums {
-        high: sums >> 16,
-        low: sums & 0xFFFF,
-        check: (ones >> 15) + ones,
-    }
-}
-
-/// Sums of at most 64 symbols.
-#[inline(always)]
-fn sums(x: &[u8]) -> Sums {
-    if x.len() < 8 {
-        return few(x, 0);
-    }
-    let (sixteens, rest) = x.as_chunks::<16>();
-    let mut places = [1, 2, 3, 4, 5, 6, 7, 8, 9, 10, 11, 12, 13, 14, 15, 16];
-    let mut lanes = [[0; 16]; 3];
-    for x in sixteens {
-        add(x, &places, &mut lanes);
-        places.iter_mut().for_each(|place| *place += 16);
-    }
-    let mut all = total(lanes);
-    let (eights, rest) = rest.as_chunks::<8>();
-    if let [x] = eights {
-        let mut lanes = [[0; 8]; 3];
-        add(x, &PLACES[2 * sixteens.len() & 7], &mut lanes);
-        all = all.and(total(lanes));
-    }
-    if !rest.is_empty() {
-        all = all.and(few(rest, (x.len() & !7) as u32));
-    }
-    all
-}
-
-/// The two numbers in syndrome letters, the high one sixteen places above the low one.
-#[inline(always)]
-fn numbers(a: &[u8]) -> u32 {
-    a.iter().fold(0, |number, &x| 2 * number + BITS[x as usize])
-}
-
-/// The ones in both layers.
-#[inline(always)]
-fn ones(x: &[u8]) -> (u32, u32) {
-    let ones = x.iter().fold(0, |ones, &x| ones + BITS[x as usize]);
-    (ones >> 16, ones & 0xFFFF)
-}
-
-/// Writes check, separator and syndrome; hands back the rest and the last syndrome letter.
-#[inline(always)]
-fn put_tail<'a>(lay: &Layout, all: Sums, to: &'a mut [u8]) -> (&'a mut [u8], u8) {
-    let (front, to) = to.split_at_mut(4);
-    let (a, rest) = to.split_at_mut(lay.t);
-    let mut both = lay.reduce(all.high) << 8 | lay.reduce(all.low);
-    for to in a.iter_mut().rev() {
-        *to = PAIRED[(both & 0x101) as usize];
-        both >>= 1;
-    }
-    let c = letter(all.check);
-    let s = sep(c, a[0], a[1]);
-    front.copy_from_slice(&[c, s, s, s]);
-    (rest, a[lay.t - 1])
+    Ok(l as usize)
 }
 
 /// Writes the strand of a message; hands back its number of letters.
-#[inline(never)]
 pub fn write(k: u32, b: u32, message: &[u8], out: &mut [u8]) -> Result<usize, Refused> {
-    let lay = layout(k, b, message.len() == b as usize)?;
-    let length = lay.l * (lay.k + lay.t + 6) - 2;
-    let Some(mut to) = out.get_mut(..length) else {
+    let l = segments_of(k, b, Some(message.len()))?;
+    by_k!(k, write_all(l, message, out))
+}
+
+/// Test 5, and the letters of all l segments.
+#[inline(never)]
+fn write_all<const K: usize, const C: usize>(
+    l: usize,
+    message: &[u8],
+    out: &mut [u8],
+) -> Result<usize, Refused> {
+    let length = l * (Shape::<K, C>::BODY + 2) - 2;
+    let Some(mut rest) = out.get_mut(..length) else {
         return refuse(5);
     };
-    let mut symbols = [[0; 4]; 128];
-    for (four, &byte) in symbols.iter_mut().zip(message) {
-        *four = FOUR[byte as usize];
-    }
-    let symbols = &symbols.as_flattened()[..4 * lay.b];
     let mut f = 0;
-    for (i, x) in symbols.chunks_exact(lay.k).enumerate() {
+    for i in 0..l {
+        let part = part_of::<K>(message, i);
         if i > 0 {
-            let m = sep(f, x[0], x[1]);
-            let Some((marker, rest)) = to.split_first_chunk_mut() else {
-                break;
+            let Some((marker, more)) = rest.split_first_chunk_mut::<2>() else {
+                return refuse(5);
             };
-            *marker = [m, m];
-            to = rest;
+            *marker = [LETTERS[SEP[(f << 4 | part[0] >> 4) as usize & 63] as usize & 3]; 2];
+            rest = more;
         }
-        let (front, tail) = to.split_at_mut(lay.k);
-        front.copy_from_slice(x);
-        (to, f) = put_tail(&lay, sums(x), tail);
+        let Some((body, more)) = rest.split_at_mut_checked(Shape::<K, C>::BODY) else {
+            return refuse(5);
+        };
+        rest = more;
+        f = write_body::<K, C>(&part, body);
     }
     Ok(length)
 }
 
+/// The bytes of one segment's message, spare bits zero.
 #[inline(always)]
-fn is_foreign(x: u8) -> bool {
-    (x != b'A') & (x != b'T') & (x != b'C') & (x != b'G')
+fn part_of<const K: usize>(message: &[u8], i: usize) -> [u8; 16] {
+    let bytes = K.div_ceil(4);
+    let at = i * K / 4;
+    let mut part = [0; 16];
+    if K % 4 == 0 {
+        part[..bytes].copy_from_slice(&message[at..at + bytes]);
+        return part;
+    }
+    let shift = i * K % 4 * 2;
+    let mut byte = message[at] as u32;
+    for (j, part) in part[..bytes].iter_mut().enumerate() {
+        let next = message.get(at + j + 1).copied().unwrap_or(0) as u32;
+        *part = ((byte << 8 | next) << shift >> 8) as u8;
+        byte = next;
+    }
+    part[bytes - 1] &= 0xFF << (2 * (4 * bytes - K));
+    part
 }
 
-/// Whether one of N or more letters is foreign; some of the last N are looked at twice.
+/// Message, check, separator and syndrome in letters; hands back the last symbol.
 #[inline(always)]
-fn any_foreign<const N: usize>(letters: &[u8]) -> Option<bool> {
-    let last = letters.last_chunk::<N>()?;
-    let mut lanes = [0u8; N];
-    for x in letters.as_chunks::<N>().0 {
-        for i in 0..N {
-            lanes[i] |= is_foreign(x[i]) as u8;
+fn write_body<const K: usize, const C: usize>(part: &[u8; 16], body: &mut [u8]) -> u8 {
+    let (mut sums, mut fours) = (0u64, 0u64);
+    let body = &mut body[..Shape::<K, C>::BODY];
+    for j in (0..K.div_ceil(4)).rev() {
+        let byte = part[j] as usize;
+        fours += sums;
+        sums += FOUR_SUMS[byte];
+        body[4 * j..4 * j + 4].copy_from_slice(&FOUR[byte]);
+    }
+    let high = (sums >> 48) as u32 + 4 * (fours >> 16 & 0xFFFF) as u32;
+    let low = (sums >> 32 & 0xFFFF) as u32 + 4 * (fours & 0xFFFF) as u32;
+    let (high, low) = (high % Shape::<K, C>::CYCLE, low % Shape::<K, C>::CYCLE);
+    let highs = BITS[(high & 127) as usize] >> (8 * Shape::<K, C>::NARROW);
+    let lows = BITS[(low & 127) as usize] >> (8 * Shape::<K, C>::NARROW);
+    let check = (2 * (sums >> 16) + sums) as usize & 3;
+    let a = highs << 1 | lows;
+    let letters = 0x41 * ONES + a + lows * 0x12 - (highs & lows) * 0x0F;
+    let front = check << 4 | (a << 2) as usize & 12 | (a >> 8) as usize & 3;
+    body[K..K + 4].copy_from_slice(&CHECK_SEP[front]);
+    body[K + 4..].copy_from_slice(&letters.to_le_bytes()[..Shape::<K, C>::T]);
+    (2 * (high & 1) + (low & 1)) as u8
+}
+
+/// A received strand in symbols; past its end stands PAST.
+struct Strand {
+    symbols: [u8; 2048],
+    length: usize,
+}
+
+/// Eight letters as symbols; marks the foreign ones.
+#[inline(always)]
+fn symbols_of(letters: &[u8; 8], foreign: &mut u64) -> [u8; 8] {
+    let x = u64::from_le_bytes(*letters);
+    // Bit 1 is the high layer, bit 2 the low one; of the four letters T alone has bit 4 and not bit 0.
+    let low = x >> 2;
+    let t = low & !(x >> 1);
+    *foreign |= (x ^ 0x40 * ONES) & 0xE8 * ONES | (!(x ^ t) | x >> 4 ^ t) & ONES;
+    (x & 2 * ONES | low & ONES).to_le_bytes()
+}
+
+impl Strand {
+    /// Test 6, eight letters at once, the last eight counted from the end.
+    #[inline(always)]
+    fn fill(&mut self, letters: &[u8]) -> Result<(), Refused> {
+        let mut foreign = 0;
+        let symbols = &mut self.symbols[..letters.len()];
+        let (eights, _) = letters.as_chunks::<8>();
+        let (filled, _) = symbols.as_chunks_mut::<8>();
+        for (eight, filled) in eights.iter().zip(filled) {
+            *filled = symbols_of(eight, &mut foreign);
+        }
+        if let (Some(eight), Some(filled)) = (letters.last_chunk(), symbols.last_chunk_mut()) {
+            *filled = symbols_of(eight, &mut foreign);
+        } else {
+            let mut eight = [b'A'; 8];
+            eight[..letters.len()].copy_from_slice(letters);
+            let filled = symbols_of(&eight, &mut foreign);
+            symbols.copy_from_slice(&filled[..letters.len()]);
+        }
+        if foreign != 0 {
+            return Err(first_foreign(letters));
+        }
+        Ok(())
+    }
+
+    /// The symbols from a place on, where the array holds enough of them.
+    #[inline(always)]
+    fn window(&self, p: usize) -> Option<&[u8; WINDOW]> {
+        self.symbols.get(p..)?.first_chunk()
+    }
+
+    /// The same at the array's end, PAST behind it.
+    #[cold]
+    fn last_window(&self, p: usize) -> [u8; WINDOW] {
+        let rest = self.symbols.get(p..).unwrap_or(&[]);
+        let mut window = [PAST; WINDOW];
+        let count = rest.len().min(WINDOW);
+        window[..count].copy_from_slice(&rest[..count]);
+        window
+    }
+}
+
+#[cold]
+fn first_foreign(letters: &[u8]) -> Refused {
+    let place = letters.iter().position(|x| !LETTERS.contains(x));
+    Refused {
+        number: 6,
+        place: place.unwrap_or(0),
+    }
+}
+
+/// The sum of the places, from 1, that hold a one in a layer.
+#[inline(always)]
+fn places<const C: usize>(x: &[u64; C], layer: u32) -> u32 {
+    if C == 1 {
+        return weighted(x[0] >> layer & ONES, WEIGHTS_1);
+    }
+    if C == 2 {
+        let (first, second) = (x[0] >> layer & ONES, x[1] >> layer & ONES);
+        let both = first
+            .wrapping_mul(WEIGHTS_1)
+            .wrapping_add(second.wrapping_mul(WEIGHTS_9));
+        return (both >> 56) as u32;
+    }
+    // Two numbers at once, the last two first.
+    let (mut lanes, mut steps) = ([0u64; 2], [0u64; 2]);
+    for c in (0..C.div_ceil(2)).rev() {
+        let second = if 2 * c + 1 < C { x[2 * c + 1] } else { 0 };
+        lanes[0] += x[2 * c] >> layer & ONES;
+        lanes[1] += second >> layer & ONES;
+        if c > 0 {
+            steps[0] += lanes[0];
+            steps[1] += lanes[1];
         }
     }
-    for i in 0..N {
-        lanes[i] |= is_foreign(last[i]) as u8;
-    }
-    Some(lanes.iter().fold(0, |any, &x| any | x) != 0)
-}
-
-/// Test 6: the place of the first foreign letter.
-#[inline(always)]
-fn foreign(letters: &[u8]) -> Option<usize> {
-    match any_foreign::<32>(letters).or_else(|| any_foreign::<16>(letters)) {
-        Some(false) => None,
-        _ => letters.iter().position(|&x| is_foreign(x)),
+    let steps = 8 * total(2 * (steps[0] + steps[1]) + lanes[1]);
+    if C < 8 {
+        steps + weighted(lanes[0] + lanes[1], WEIGHTS_1)
+    } else {
+        steps + weighted(lanes[0], WEIGHTS_1) + weighted(lanes[1], WEIGHTS_1)
     }
 }
 
-/// Packs symbols into whole bytes.
+/// The number of ones in a layer.
 #[inline(always)]
-fn pack_fours(to: &mut [u8], fours: &[[u8; 4]]) {
-    for (to, four) in to.iter_mut().zip(fours) {
-        *to = MOVED[0][four[0] as usize]
-            | MOVED[1][four[1] as usize]
-            | MOVED[2][four[2] as usize]
-            | MOVED[3][four[3] as usize];
-    }
+fn ones<const C: usize>(x: &[u64; C], layer: u32) -> u32 {
+    total(x.iter().map(|x| x >> layer & ONES).sum())
 }
 
-/// Packs symbols into the message, after so many symbols.
+/// The sum of the symbols.
 #[inline(always)]
-fn pack(message: &mut [u8], at: usize, x: &[u8]) {
-    let (front, x) = x.split_at((at.wrapping_neg() & 3).min(x.len()));
-    let mut byte = at / 4;
-    if !front.is_empty() {
-        for (i, &x) in front.iter().enumerate() {
-            message[byte] |= MOVED[(at + i) & 3][x as usize];
-        }
-        byte += 1;
-    }
-    let (fours, rest) = x.as_chunks::<4>();
-    pack_fours(&mut message[byte..], fours);
-    if !rest.is_empty() {
-        byte += fours.len();
-        message[byte] = 0;
-        for (&x, moved) in rest.iter().zip(&MOVED) {
-            message[byte] |= moved[x as usize];
+fn symbol_sum<const C: usize>(x: &[u64; C]) -> u32 {
+    total(x.iter().sum())
+}
+
+/// What is written behind a message.
+#[derive(Clone, Copy)]
+struct Tail {
+    /// Check and separator, first byte first.
+    front: u32,
+    /// The t syndrome symbols, first byte first.
+    a: u64,
+    /// The syndromes of the layers, low and high.
+    syndromes: [u32; 2],
+}
+
+impl Tail {
+    #[inline(always)]
+    fn new(sum: u32, a: u64, syndromes: [u32; 2]) -> Tail {
+        let index = (sum & 3) << 4 | (a << 2) as u32 & 12 | (a >> 8) as u32 & 3;
+        Tail {
+            front: CHECK_SEP_SYMBOLS[index as usize],
+            a,
+            syndromes,
         }
     }
+
+    #[inline(always)]
+    fn of<const K: usize, const C: usize>(x: &[u64; C]) -> Tail {
+        let low = places(x, 0) % Shape::<K, C>::CYCLE & 127;
+        let high = places(x, 1) % Shape::<K, C>::CYCLE & 127;
+        let a = (BITS[high as usize] << 1 | BITS[low as usize]) >> (8 * Shape::<K, C>::NARROW);
+        Tail::new(symbol_sum(x), a, [low, high])
+    }
+
+    #[inline(always)]
+    fn check(&self) -> u8 {
+        self.front as u8
+    }
+
+    /// The last syndrome symbol.
+    #[inline(always)]
+    fn last<const K: usize, const C: usize>(&self) -> u8 {
+        (self.a >> (8 * (Shape::<K, C>::T - 1))) as u8 & 3
+    }
+
+    /// Whether it stands at the front of the bytes.
+    #[inline(always)]
+    fn stands<const K: usize, const C: usize>(&self, bytes: &[u8; 16]) -> bool {
+        let written = self.front as u128 | (self.a as u128) << 32;
+        let other = written ^ u128::from_le_bytes(*bytes);
+        other << (8 * (12 - Shape::<K, C>::T)) == 0
+    }
 }
 
-/// Packs so many zeros into the message, after so many symbols.
+/// The k symbols from a place on.
 #[inline(always)]
-fn clear(message: &mut [u8], at: usize, count: usize) {
-    message[at.div_ceil(4)..(at + count).div_ceil(4)].fill(0);
+fn message_at<const K: usize, const C: usize>(bytes: &[u8], at: usize) -> [u64; C] {
+    let bytes = &bytes[at..at + 8 * C];
+    let mut x = [0; C];
+    for c in 0..C {
+        x[c] = eight(bytes, 8 * c);
+    }
+    x[C - 1] &= Shape::<K, C>::KEEP;
+    x
 }
 
-/// Whether two rows of letters that differ are one edit apart.
+/// Three equal symbols, none of them past the end.
 #[inline(always)]
-fn one_edit(written: &[u8], piece: &[u8]) -> bool {
-    let (n, length) = (written.len(), piece.len());
-    if length + 1 < n || length > n + 1 {
+fn three_equal(word: u64) -> bool {
+    (word ^ word >> 8) & 0xFFFF | word & PAST as u64 == 0
+}
+
+/// The marker before a message.
+#[inline(always)]
+fn marker(f: u8, first_symbols: u64) -> u8 {
+    let (one, two) = (first_symbols as u8 & 3, (first_symbols >> 8) as u8 & 3);
+    SEP[(f << 4 | one << 2 | two) as usize & 63]
+}
+
+/// The place behind the first so many ones of a layer.
+#[inline(always)]
+fn place_behind<const C: usize>(bits: &[u64; C], ones: u32) -> usize {
+    let mut before = 0;
+    let mut places = 8 * C as u32;
+    for &bits in bits {
+        let sums = bits.wrapping_mul(ONES);
+        let lanes = (sums << 8) + before * ONES;
+        places -= total(((lanes | 0x80 * ONES) - ones as u64 * ONES) >> 7 & ONES);
+        before += sums >> 56;
+    }
+    places as usize
+}
+
+/// A layer in need of repair.
+struct Layer {
+    /// Its shift in a symbol.
+    shift: u32,
+    /// The syndrome of the k symbols read.
+    read: u32,
+    /// The syndrome received.
+    written: u32,
+}
+
+/// The difference of two numbers below 2k, modulo 2k.
+#[inline(always)]
+fn less(one: u32, other: u32, k: u32) -> u32 {
+    if one < other {
+        one + 2 * k - other
+    } else {
+        one - other
+    }
+}
+
+/// The bits of a layer, or their opposites.
+#[inline(always)]
+fn layer_bits<const C: usize>(x: &[u64; C], shift: u32, opposite: bool) -> [u64; C] {
+    let turned = if opposite { u64::MAX } else { 0 };
+    let mut bits = [0; C];
+    for c in 0..C {
+        bits[c] = (x[c] ^ turned) >> shift & ONES;
+    }
+    bits
+}
+
+/// Step 7 for a layer with at most one changed bit.
+#[inline(always)]
+fn repair_changed<const C: usize>(k: u32, x: &mut [u64; C], layer: &Layer) -> bool {
+    let more = less(layer.written, layer.read, k);
+    if more == 0 {
+        return true;
+    }
+    let (place, wanted) = if more <= k {
+        (more - 1, 0)
+    } else {
+        (2 * k - more - 1, 1)
+    };
+    let (c, shift) = (place as usize / 8, place % 8 * 8 + layer.shift);
+    if c >= C || more != k && x[c] >> shift & 1 != wanted {
         return false;
     }
-    let differ = written.iter().zip(piece).position(|(x, y)| x != y);
-    let front = differ.unwrap_or(n.min(length));
-    let written = &written[front + (length <= n) as usize..];
-    let piece = &piece[front + (length >= n) as usize..];
-    written.iter().zip(piece).all(|(x, y)| x == y)
+    x[c] ^= 1 << shift;
+    true
 }
 
-/// The first place with so many bits of a layer before it.
-#[inline(never)]
-fn place_after(x: &[u8], layer: u8, bit: u8, count: u32) -> usize {
-    let mut rest = count as u8;
-    if rest == 0 {
-        return 0;
+/// Step 7 for a layer with one bit more: the place of the bit that has to go.
+#[inline(always)]
+fn place_of_more<const C: usize>(
+    k: u32,
+    body: &[u8; BODY],
+    x: &[u64; C],
+    layer: &Layer,
+) -> Option<usize> {
+    let extra = (body[k as usize] >> layer.shift & 1) as u32;
+    let read_ones = ones(x, layer.shift);
+    let ones = read_ones + extra;
+    let surplus = less(layer.read, less(layer.written, (k + 1) * extra, k), k);
+    if surplus > k + 1 {
+        return None;
     }
-    let mut from = 0;
-    for x in x.as_chunks::<16>().0 {
-        let here = x.iter().map(|&x| (x & layer == bit) as u8).sum::<u8>();
-        if here >= rest {
-            break;
-        }
-        rest -= here;
-        from += 16;
+    if surplus == ones {
+        return Some(0);
     }
-    for (i, &x) in x[from..].iter().enumerate() {
-        rest -= (x & layer == bit) as u8;
-        if rest == 0 {
-            return from + i + 1;
-        }
+    let zero_goes = surplus < ones;
+    let (count, most) = if zero_goes {
+        (ones - surplus, read_ones)
+    } else {
+        (surplus - ones, k - read_ones)
+    };
+    if count > most {
+        return None;
     }
-    x.len()
+    let place = place_behind(&layer_bits(x, layer.shift, !zero_goes), count);
+    let bit = body[place.min(BODY - 1)] >> layer.shift & 1;
+    (bit == !zero_goes as u8).then_some(place)
 }
 
-/// A segment: its number, its start and the letter before it.
-struct At {
-    i: usize,
-    p: usize,
-    f: u8,
-}
-
-/// A received strand.
-struct Reader<'a> {
-    lay: &'a Layout,
-    s: &'a [u8],
-}
-
-impl Reader<'_> {
-    /// Whether a message has this check, separator and syndrome; six letters begin with them,
-    /// eight end with them.
-    #[inline(always)]
-    fn fits(&self, x: &[u8], &[c, s1, s2, s3, a1, a2]: &[u8; 6], eight: &[u8; 8]) -> bool {
-        let s = sep(c, a1, a2);
-        if s1 != s || s2 != s || s3 != s {
-            return false;
-        }
-        let all = sums(x);
-        c == letter(all.check) && numbers(eight) & self.lay.mask == self.lay.syndromes(all)
+/// Step 7 for a layer with one bit less: where a bit has to come in, and which.
+#[inline(always)]
+fn place_of_less<const C: usize>(k: u32, x: &[u64; C], layer: &Layer) -> Option<(usize, u64)> {
+    let extra = (x[C - 1] >> ((k - 1) % 8 * 8 + layer.shift) & 1) as u32;
+    let ones = ones(x, layer.shift) - extra;
+    let more = less(layer.written, less(layer.read, k * extra, k), k);
+    if more > k {
+        return None;
     }
+    let zero_comes = more <= ones;
+    let count = if zero_comes {
+        ones - more
+    } else {
+        more - ones - 1
+    };
+    let place = place_behind(&layer_bits(x, layer.shift, !zero_comes), count);
+    Some((place, !zero_comes as u64))
+}
 
-    /// Whether a clean segment with a marker stands at p.
-    #[inline(always)]
-    fn clean(&self, p: usize, f: u8) -> bool {
-        let Some(segment) = self.s.get(p..p + self.lay.k + self.lay.t + 6) else {
+/// Takes the one bits of a layer before a place, the other ones from there on.
+#[inline(always)]
+fn joined<const C: usize>(one: &[u64; C], other: &[u64; C], high: usize, low: usize) -> [u64; C] {
+    let (high, low) = (before(high), before(low));
+    let mut x = [0; C];
+    for c in 0..C {
+        let keep = eight(high, 8 * c) & (2 * ONES) | eight(low, 8 * c) & ONES;
+        x[c] = other[c] ^ (one[c] ^ other[c]) & keep;
+    }
+    x
+}
+
+/// Step 7: both layers, apart, from the syndromes read and written.
+#[inline(always)]
+fn repaired<const C: usize>(
+    k: u32,
+    body: &[u8; BODY],
+    j: isize,
+    x: &mut [u64; C],
+    read: [u32; 2],
+    written: [u32; 2],
+) -> bool {
+    let [low, high] = [0, 1].map(|i| Layer {
+        shift: i as u32,
+        read: read[i],
+        written: written[i],
+    });
+    let keep = u64::MAX >> (8 * (8 * C as u32 - k) & 63);
+    if j == 0 {
+        return repair_changed(k, x, &high) && repair_changed(k, x, &low);
+    }
+    if j == 1 {
+        let high = place_of_more(k, body, x, &high);
+        let low = place_of_more(k, body, x, &low);
+        let (Some(high), Some(low)) = (high, low) else {
             return false;
         };
-        if segment[0] != segment[1] || segment[0] != sep(f, segment[2], segment[3]) {
-            return false;
+        let mut moved = [0; C];
+        for c in 0..C {
+            moved[c] = eight(body, 8 * c + 1);
         }
-        let (x, tail) = segment[2..].split_at(self.lay.k);
-        match (tail.first_chunk(), segment.last_chunk()) {
-            (Some(six), Some(eight)) => self.fits(x, six, eight),
-            _ => false,
+        moved[C - 1] &= keep;
+        *x = joined(x, &moved, high, low);
+        return true;
+    }
+    let high = place_of_less(k, x, &high);
+    let low = place_of_less(k, x, &low);
+    let (Some((high, high_bit)), Some((low, low_bit))) = (high, low) else {
+        return false;
+    };
+    let mut moved = [0; C];
+    for c in 0..C {
+        moved[c] = x[c] << 8 | if c > 0 { x[c - 1] >> 56 } else { 0 };
+    }
+    moved[C - 1] &= keep;
+    *x = joined(x, &moved, high, low);
+    for (place, bit, shift) in [(high, high_bit, 1), (low, low_bit, 0)] {
+        if let Some(x) = x.get_mut(place / 8) {
+            let shift = place % 8 * 8 + shift;
+            *x = *x & !(1 << shift) | bit << shift;
         }
     }
+    true
+}
 
-    /// Reads clean segments up to one that is not; FOURS tells that four divides k.
-    #[inline(never)]
-    fn clean_ones<const FOURS: bool>(&self, at: &mut At, message: &mut [u8]) {
-        let (k, l) = (self.lay.k, self.lay.l);
-        let At { mut i, p, mut f } = *at;
-        let mut rest = &self.s[p..];
-        let mut to = &mut message[if FOURS { i * k / 4 } else { 0 }..];
-        while i < l {
-            let marker = if i == 0 { 0 } else { 2 };
-            let n = marker + k + 4 + self.lay.t;
-            let Some((segment, after)) = rest.split_at_checked(n) else {
-                break;
-            };
-            let (x, tail) = segment[marker..].split_at(k);
-            let (Some(six), Some(eight)) = (tail.first_chunk(), segment.last_chunk()) else {
-                break;
-            };
-            if i != 0 {
-                let m = sep(f, x[0], x[1]);
-                if segment[0] != m || segment[1] != m {
-                    break;
+/// The place of the first byte that is not zero.
+#[inline(always)]
+fn first_other(x: &[u64]) -> usize {
+    let mut place = 0;
+    for &x in x {
+        if x != 0 {
+            return place + x.trailing_zeros() as usize / 8;
+        }
+        place += 8;
+    }
+    place
+}
+
+/// The place behind the last byte that is not zero.
+#[inline(always)]
+fn behind_other(x: &[u64]) -> usize {
+    let mut place = 8 * x.len();
+    for &x in x.iter().rev() {
+        if x != 0 {
+            return place - x.leading_zeros() as usize / 8;
+        }
+        place -= 8;
+    }
+    0
+}
+
+/// Step 9: the edit that leads from the written segment to the piece.
+#[inline(always)]
+fn edit_between<const C: usize>(
+    k: usize,
+    length_of_body: usize,
+    w: &[u8; WINDOW],
+    m: Option<u8>,
+    x: &[u64; C],
+    tail: &Tail,
+    length: usize,
+) -> Option<Edit> {
+    let head = if m.is_some() { 2 } else { 0 };
+    let n = head + length_of_body;
+    if length + 1 < n || length > n + 1 {
+        return None;
+    }
+    // The written segment behind its marker.
+    let mut written = [0u64; CHUNKS + 1];
+    written[..C].copy_from_slice(x);
+    let behind = tail.front as u128 | (tail.a as u128) << 32;
+    let room = 8 * (8 * C - k) as u32;
+    if room > 0 {
+        written[C - 1] |= (behind << (64 - room)) as u64;
+    }
+    written[C] = (behind >> room) as u64;
+    written[C + 1] = (behind >> room >> 64) as u64;
+    let body = &w[head..head + BODY];
+    let m = m.unwrap_or(0);
+    let differs = |at: usize, symbol: u8| head > 0 && w[at] != symbol;
+    // The places before the first difference agree.
+    let mut others = [0u64; CHUNKS];
+    let keep = before(length.min(n) - head);
+    for c in 0..C + 2 {
+        others[c] = (written[c] ^ eight(body, 8 * c)) & eight(keep, 8 * c);
+    }
+    let agree = if differs(0, m) {
+        0
+    } else if differs(1, m) {
+        1
+    } else {
+        head + first_other(&others[..C + 2])
+    };
+    if length == n {
+        let place = match behind_other(&others[..C + 2]) {
+            0 if differs(1, m) => 1,
+            0 if differs(0, m) => 0,
+            0 => return Some(Edit::None),
+            behind => head + behind - 1,
+        };
+        let symbol = w[place];
+        return (place == agree).then_some(Edit::Sub { place, symbol });
+    }
+    if length < n {
+        // Behind the place the written symbols stand one further.
+        for c in 0..C + 2 {
+            let moved = written[c] >> 8 | written[c + 1] << 56;
+            others[c] = (moved ^ eight(body, 8 * c)) & eight(keep, 8 * c);
+        }
+        let place = match behind_other(&others[..C + 2]) {
+            0 if differs(1, x[0] as u8) => 2,
+            0 if differs(0, m) => 1,
+            0 => 0,
+            behind => head + behind,
+        };
+        if place > agree {
+            return None;
+        }
+        let symbol = match place.checked_sub(head) {
+            Some(i) => (written[i / 8] >> (8 * (i % 8))) as u8,
+            None => m,
+        };
+        return Some(Edit::Del { place, symbol });
+    }
+    // Behind the place the received symbols stand one further.
+    for c in 0..C + 2 {
+        others[c] = (written[c] ^ eight(body, 8 * c + 1)) & eight(keep, 8 * c);
+    }
+    let place = match behind_other(&others[..C + 2]) {
+        0 if differs(2, m) => 2,
+        0 if differs(1, m) => 1,
+        0 => 0,
+        behind => head + behind,
+    };
+    let symbol = w[place];
+    (place <= agree).then_some(Edit::Ins { place, symbol })
+}
+
+/// Whether a clean segment with a marker starts at p.
+#[inline(never)]
+fn clean_at<const K: usize, const C: usize>(strand: &Strand, p: usize, f: u8) -> bool {
+    if p + Shape::<K, C>::BODY + 2 > strand.length {
+        return false;
+    }
+    let spare;
+    let w = match strand.window(p) {
+        Some(w) => w,
+        None => {
+            spare = strand.last_window(p);
+            &spare
+        }
+    };
+    let m = marker(f, eight(w, 2));
+    if w[0] != m || w[1] != m {
+        return false;
+    }
+    let Some(near) = w[K + 2..].first_chunk::<16>() else {
+        return false;
+    };
+    let x = message_at::<K, C>(w, 2);
+    Tail::of::<K, C>(&x).stands::<K, C>(near)
+}
+
+/// Step 8, where the syndrome does not tell the end.
+#[inline(always)]
+fn end_by_next<const K: usize, const C: usize>(
+    strand: &Strand,
+    own: usize,
+    f: u8,
+) -> Option<usize> {
+    [own, own - 1, own + 1]
+        .into_iter()
+        .find(|&end| clean_at::<K, C>(strand, end, f))
+}
+
+/// Step 10: the start of the next clean segment.
+#[inline(never)]
+fn scan<const K: usize, const C: usize>(strand: &Strand, p: usize, own: usize) -> Option<usize> {
+    // A start needs two equal symbols for its marker and three for its separator.
+    let mut starts = u32::MAX;
+    if let Some(near) = strand.symbols.get(own - 8..own + K + 24) {
+        starts = 0;
+        for c in 0..3 {
+            let at = 8 * c;
+            let (s1, s2, s3) = (
+                eight(near, at + K + 3),
+                eight(near, at + K + 4),
+                eight(near, at + K + 5),
+            );
+            let other = eight(near, at) ^ eight(near, at + 1) | s1 ^ s2 | s2 ^ s3;
+            let equal = !(other + 0x7F * ONES) >> 7 & ONES;
+            starts |= ((equal.wrapping_mul(WEIGHT_BITS) >> 56) as u32) << at;
+        }
+    }
+    for d in MOVES {
+        let start = (own as isize + d) as usize;
+        if starts >> (8 + d) & 1 == 1
+            && start > p
+            && start <= strand.length
+            && clean_at::<K, C>(strand, start, strand.symbols[start - 1])
+        {
+            return Some(start);
+        }
+    }
+    None
+}
+
+/// A segment as read.
+struct Segment<const C: usize> {
+    message: [u64; C],
+    end: usize,
+    /// The last syndrome symbol of the message.
+    f: u8,
+    edit: Edit,
+}
+
+/// Steps 1 to 9 at once, where marker, message, check, separator and syndrome stand as written.
+#[inline(always)]
+fn clean_segment_at<const K: usize, const C: usize>(
+    strand: &Strand,
+    p: usize,
+    f: Option<u8>,
+    last: bool,
+) -> Option<Segment<C>> {
+    let w = strand.window(p)?;
+    let head = if f.is_some() { 2 } else { 0 };
+    let message = message_at::<K, C>(w, head);
+    let tail = Tail::of::<K, C>(&message);
+    let end = p + head + Shape::<K, C>::BODY;
+    let whole = match f {
+        Some(f) => u16::from_le_bytes([w[0], w[1]]) == marker(f, message[0]) as u16 * 0x0101,
+        None => true,
+    };
+    let near = w[head + K..].first_chunk()?;
+    let clean = whole && tail.stands::<K, C>(near) && (!last || end == strand.length);
+    clean.then_some(Segment {
+        message,
+        end,
+        f: tail.last::<K, C>(),
+        edit: Edit::None,
+    })
+}
+
+/// Steps 1 to 9 for the segment at p, or the step that loses it; the first segment has no f.
+#[inline(never)]
+fn segment_at<const K: usize, const C: usize>(
+    strand: &Strand,
+    p: usize,
+    f: Option<u8>,
+    last: bool,
+) -> Result<Segment<C>, u32> {
+    let spare;
+    let w = match strand.window(p) {
+        Some(w) => w,
+        None => {
+            spare = strand.last_window(p);
+            &spare
+        }
+    };
+    let head = if f.is_some() { 2 } else { 0 };
+    let Some(body) = w[head..].first_chunk::<BODY>() else {
+        return Err(3);
+    };
+    // Step 1.
+    let whole = head == 0 || w[0] == w[1] && w[0] != PAST;
+    // Step 2.
+    let near = eight(body, K);
+    let j = if three_equal(near >> 8) {
+        Some(0)
+    } else if three_equal(near) {
+        Some(-1)
+    } else if three_equal(near >> 16) {
+        Some(1)
+    } else {
+        None
+    };
+    // Step 3, or else the k symbols at D.
+    let moved = match j {
+        None if !whole => return Err(3),
+        Some(j) if !whole => j,
+        _ => 0,
+    };
+    let mut message = message_at::<K, C>(w, (head as isize + moved) as usize & 3);
+    let mut tail = Tail::of::<K, C>(&message);
+    // The t symbols after the separator.
+    let at = (K as isize + 4 + j.unwrap_or(0)) as usize;
+    let a = eight(body, at) & Shape::<K, C>::KEEP_T;
+    let mut agrees = j.is_some() && a == tail.a;
+    if whole {
+        let check_agrees = near as u8 == tail.check();
+        match j {
+            // Step 4.
+            Some(0) if agrees || check_agrees => {}
+            // Step 5.
+            Some(_) if agrees => {}
+            // Step 7.
+            Some(j) => {
+                let Some(written) = syndromes_of::<K, C>(a) else {
+                    return Err(7);
+                };
+                if !repaired(K as u32, body, j, &mut message, tail.syndromes, written) {
+                    return Err(7);
+                }
+                tail = Tail::new(symbol_sum(&message), a, written);
+                agrees = true;
+            }
+            // Step 6.
+            None if check_agrees => {}
+            None => return Err(6),
+        }
+    }
+    // Step 8.
+    let own = p + head + Shape::<K, C>::BODY;
+    let f_next = tail.last::<K, C>();
+    let end = if last {
+        strand.length
+    } else if agrees {
+        (own as isize + j.unwrap_or(0)) as usize
+    } else {
+        match end_by_next::<K, C>(strand, own, f_next) {
+            Some(end) => end,
+            None => return Err(8),
+        }
+    };
+    // Step 9.
+    let m = f.map(|f| marker(f, message[0]));
+    match edit_between(K, Shape::<K, C>::BODY, w, m, &message, &tail, end - p) {
+        Some(edit) => Ok(Segment {
+            message,
+            end,
+            f: f_next,
+            edit,
+        }),
+        None => Err(9),
+    }
+}
+
+/// The layers' syndromes that were received, if they are in the strand and below 2k.
+#[inline(always)]
+fn syndromes_of<const K: usize, const C: usize>(a: u64) -> Option<[u32; 2]> {
+    // Byte i of a layer goes to bit 6-i.
+    const GATHER: u64 = 1 << 62 | 1 << 53 | 1 << 44 | 1 << 35 | 1 << 26 | 1 << 17 | 1 << 8;
+    let value = |bits: u64| (weighted(bits & ONES, GATHER) & 127) >> Shape::<K, C>::NARROW;
+    let (low, high) = (value(a), value(a >> 1));
+    let inside = a & (PAST as u64 * ONES) == 0;
+    let known = low < Shape::<K, C>::CYCLE && high < Shape::<K, C>::CYCLE;
+    (inside && known).then_some([low, high])
+}
+
+/// Puts the messages of the segments together.
+struct Packer<'a> {
+    message: &'a mut [u8],
+    at: usize,
+    /// Bits that do not fill a byte yet, and their number.
+    bits: u32,
+    count: usize,
+}
+
+impl Packer<'_> {
+    #[inline(always)]
+    fn put<const K: usize, const C: usize>(&mut self, x: &[u64; C]) {
+        if K % 4 == 0 {
+            if let Some(part) = self.message.get_mut(self.at..self.at + K / 4) {
+                for c in 0..K / 8 {
+                    part[2 * c..2 * c + 2].copy_from_slice(&packed(x[c]).to_be_bytes());
+                }
+                if K % 8 == 4 {
+                    part[K / 4 - 1] = (packed(x[C - 1]) >> 8) as u8;
                 }
             }
-            if !self.fits(x, six, eight) || i + 1 == l && !after.is_empty() {
-                break;
-            }
-            if FOURS {
-                let (whole, more) = to.split_at_mut(k / 4);
-                pack_fours(whole, x.as_chunks().0);
-                to = more;
-            } else {
-                pack(to, i * k, x);
-            }
-            f = eight[7];
-            rest = after;
-            i += 1;
+            self.at += K / 4;
+            return;
         }
-        *at = At {
-            i,
-            p: self.s.len() - rest.len(),
-            f,
+        for c in 0..C {
+            let count = 2 * (K - 8 * c).min(8);
+            self.bits = self.bits << count | packed(x[c]) as u32 >> (16 - count);
+            self.count += count;
+            while self.count >= 8 {
+                self.count -= 8;
+                if let Some(byte) = self.message.get_mut(self.at) {
+                    *byte = (self.bits >> self.count) as u8;
+                }
+                self.at += 1;
+            }
+        }
+    }
+}
+
+/// Eight symbols as 16 bits, the first one highest.
+#[inline(always)]
+fn packed(x: u64) -> u16 {
+    let pairs = (x << 2 | x >> 8) & 0x000F_000F_000F_000F;
+    (pairs.wrapping_mul(1 << 60 | 1 << 40 | 1 << 20 | 1) >> 48) as u16
+}
+
+/// The mark of a verdict in the sheet.
+#[inline(always)]
+fn mark(verdict: Verdict) -> u8 {
+    match verdict {
+        Verdict::Read(Edit::None) => 0,
+        Verdict::Read(_) => 1,
+        Verdict::Lost { .. } | Verdict::NoStart => 2,
+    }
+}
+
+/// The marks of the segments, two bits each, and their counts.
+struct Sheet {
+    marks: u128,
+    corrected: u32,
+    lost: u32,
+}
+
+impl Sheet {
+    #[inline(always)]
+    fn add(&mut self, verdict: Verdict) {
+        let mark = mark(verdict) as u32;
+        self.corrected += mark & 1;
+        self.lost += mark >> 1;
+        self.marks = self.marks << 2 | mark as u128;
+    }
+}
+
+/// Reads all l segments.
+#[inline(never)]
+fn read_all<const K: usize, const C: usize>(
+    l: usize,
+    strand: &Strand,
+    message: &mut [u8],
+) -> Sheet {
+    let mut packer = Packer {
+        message,
+        at: 0,
+        bits: 0,
+        count: 0,
+    };
+    let mut sheet = Sheet {
+        marks: 0,
+        corrected: 0,
+        lost: 0,
+    };
+    let (mut p, mut f) = (0, None);
+    let mut i = 0;
+    while i < l {
+        i += 1;
+        let last = i == l;
+        let clean = match f {
+            None => clean_segment_at::<K, C>(strand, p, None, last),
+            Some(f) => clean_segment_at::<K, C>(strand, p, Some(f), last),
         };
-    }
-
-    /// Step 2: the place of the separator.
-    #[inline(always)]
-    fn separator(&self, expected: usize) -> Option<usize> {
-        let s = self.s.get(expected - 1..)?;
-        if let Some(&[x0, x1, x2, x3, x4]) = s.first_chunk() {
-            let [same0, same1, same2, same3] = [x0 == x1, x1 == x2, x2 == x3, x3 == x4];
-            return if same1 & same2 {
-                Some(expected)
-            } else if same0 & same1 {
-                Some(expected - 1)
-            } else if same2 & same3 {
-                Some(expected + 1)
-            } else {
-                None
-            };
+        if let Some(segment) = clean {
+            packer.put::<K, C>(&segment.message);
+            sheet.add(Verdict::Read(segment.edit));
+            (p, f) = (segment.end, Some(segment.f));
+            continue;
         }
-        match *s {
-            [_, x1, x2, x3] if x1 == x2 && x2 == x3 => Some(expected),
-            [x0, x1, x2, ..] if x0 == x1 && x1 == x2 => Some(expected - 1),
-            _ => None,
-        }
-    }
-
-    /// Steps 1 to 9 for a segment that is not clean: its end and its last syndrome letter.
-    #[inline(never)]
-    fn edited(&self, at: &At, message: &mut [u8]) -> Option<(usize, u8)> {
-        let (lay, s) = (self.lay, self.s);
-        let (k, t) = (lay.k, lay.t);
-        let &At { i, p, .. } = at;
-        let (first, last) = (i == 0, i + 1 == lay.l);
-        let d = if first { p } else { p + 2 };
-        let found = self.separator(d + k + 1);
-        if !first && s.get(p..p + 2).is_none_or(|m| m[0] != m[1]) {
-            return self.marker_hit(at, found?, message);
-        }
-        let x = s.get(d..d + k)?;
-        let all = sums(x);
-        let check = letter(all.check);
-        let a = found.and_then(|q| s.get(q + 3..q + 3 + t));
-        let written = a.map(numbers);
-        let agrees = written == Some(lay.syndromes(all));
-        let end = found.map_or(0, |q| q + 3 + t);
-        let ends = !last || end == s.len();
-        if let (Some(q), Some(a), true) = (found, a, agrees && ends) {
-            // Message and syndrome are whole: the check is left out, changed or has one beside it.
-            let fits = match q - (d + k) {
-                0 => true,
-                1 => s[d + k] != check,
-                _ => s[d + k] == check || s[d + k + 1] == check,
-            };
-            if !fits || s[q] != sep(check, a[0], a[1]) || !self.marked(at, x[0], x[1]) {
-                return None;
+        match segment_at::<K, C>(strand, p, f, last) {
+            Ok(segment) => {
+                packer.put::<K, C>(&segment.message);
+                sheet.add(Verdict::Read(segment.edit));
+                (p, f) = (segment.end, Some(segment.f));
             }
-            pack(message, i * k, x);
-            return Some((end, a[t - 1]));
-        }
-        let in_place = found.is_none_or(|q| q == d + k + 1);
-        if agrees || in_place && s.get(d + k) == Some(&check) {
-            // Message and check are whole: the edit is in separator or syndrome.
-            if !self.marked(at, x[0], x[1]) {
-                return None;
-            }
-            let mut tail = [0; 11];
-            let (_, f) = put_tail(lay, all, &mut tail);
-            let usual = d + k + 4 + t;
-            let end = if last {
-                s.len()
-            } else if self.clean(usual, f) {
-                usual
-            } else if self.clean(usual - 1, f) {
-                usual - 1
-            } else if self.clean(usual + 1, f) {
-                usual + 1
-            } else {
-                return None;
-            };
-            if !one_edit(&tail[..4 + t], &s[d + k..end]) {
-                return None;
-            }
-            pack(message, i * k, x);
-            return Some((end, f));
-        }
-        // The edit is in the message, and all else is whole.
-        let (q, written) = (found?, written?);
-        let &[c, s1, _, _, a1, a2] = s[q - 1..].first_chunk()?;
-        if !ends || s1 != sep(c, a1, a2) {
-            return None;
-        }
-        let mut room = [0; 64];
-        let room = &mut room[..k];
-        let check = self.repaired(d, q, all, written, room)?;
-        if c != letter(check) || !self.marked(at, room[0], room[1]) {
-            return None;
-        }
-        pack(message, i * k, room);
-        Some((end, s[end - 1]))
-    }
-
-    /// Whether a marker that is whole stands before a message that begins with these letters.
-    #[inline(always)]
-    fn marked(&self, at: &At, x1: u8, x2: u8) -> bool {
-        at.i == 0 || self.s[at.p] == sep(at.f, x1, x2)
-    }
-
-    /// A segment whose marker is hit: the edit is there, and all else is whole.
-    #[inline(always)]
-    fn marker_hit(&self, at: &At, q: usize, message: &mut [u8]) -> Option<(usize, u8)> {
-        let (lay, s) = (self.lay, self.s);
-        let (from, end) = (q - 1 - lay.k, q + 3 + lay.t);
-        if at.i + 1 == lay.l && end != s.len() {
-            return None;
-        }
-        let (x, tail) = s.get(from..end)?.split_at(lay.k);
-        let (six, eight) = (tail.first_chunk()?, s[from..end].last_chunk()?);
-        let m = sep(at.f, x[0], x[1]);
-        let marker = match s[at.p..from] {
-            [m1] => m1 == m,
-            [m1, m2] => m1 == m || m2 == m,
-            [m1, m2, m3] => m3 == m && (m1 == m || m2 == m),
-            _ => false,
-        };
-        if !marker || !self.fits(x, six, eight) {
-            return None;
-        }
-        pack(message, at.i * lay.k, x);
-        Some((end, eight[7]))
-    }
-
-    /// Step 7 with the separator at q: fills in the message and hands back the sum of its symbols.
-    ///
-    /// Step 9 would lose a message whose layers are repaired at two places, so it is left out here.
-    #[inline(always)]
-    fn repaired(
-        &self,
-        d: usize,
-        q: usize,
-        all: Sums,
-        written: u32,
-        room: &mut [u8],
-    ) -> Option<u32> {
-        let (lay, s, k) = (self.lay, self.s, self.lay.k);
-        let (to_high, to_low) = (written >> 16, written & 0xFFFF);
-        if to_high >= lay.modulus || to_low >= lay.modulus {
-            return None;
-        }
-        if q == d + k + 1 {
-            let x = &s[d..d + k];
-            let h = self.changed(x, to_high, lay.reduce(all.high), HIGH)?;
-            let l = self.changed(x, to_low, lay.reduce(all.low), LOW)?;
-            if h != l && h != 0 && l != 0 {
-                return None;
-            }
-            let place = h.max(l) - 1;
-            let flip = if h != 0 { HIGH } else { 0 } | if l != 0 { LOW } else { 0 };
-            room.copy_from_slice(x);
-            room[place] = BY_BITS[((x[place] ^ flip) >> 1 & 3) as usize];
-            return Some(all.check + 4 + symbol(room[place]) - symbol(x[place]));
-        }
-        if q == d + k {
-            let x = &s[d..d + k - 1];
-            let more = BITS[s[d + k - 1] as usize] * k as u32;
-            let (high, low) = (all.high - (more >> 16), all.low - (more & 0xFFFF));
-            let (high_ones, low_ones) = ones(x);
-            let (h, high_bit) = self.missing(x, to_high, high, high_ones, HIGH)?;
-            let (l, low_bit) = self.missing(x, to_low, low, low_ones, LOW)?;
-            let (front, back) = (h.min(l), h.max(l));
-            let (layer, bit) = if h < l {
-                (HIGH, high_bit)
-            } else {
-                (LOW, low_bit)
-            };
-            if x[front..back].iter().any(|&x| x & layer != bit) {
-                return None;
-            }
-            room[..back].copy_from_slice(&x[..back]);
-            room[back] = BY_BITS[((high_bit | low_bit) >> 1) as usize];
-            room[back + 1..].copy_from_slice(&x[back..]);
-            return Some(2 * high_ones + low_ones + symbol(room[back]));
-        }
-        let x = &s[d..d + k + 1];
-        let more = BITS[s[d + k] as usize] * (k as u32 + 1);
-        let (high, low) = (all.high + (more >> 16), all.low + (more & 0xFFFF));
-        let (high_ones, low_ones) = ones(x);
-        let h = self.spare(x, to_high, high, high_ones, HIGH)?;
-        let l = self.spare(x, to_low, low, low_ones, LOW)?;
-        let (front, back) = (h.min(l), h.max(l));
-        let layer = if h < l { HIGH } else { LOW };
-        if x[front..back].iter().any(|&y| (y ^ x[back]) & layer != 0) {
-            return None;
-        }
-        room[..back].copy_from_slice(&x[..back]);
-        room[back..].copy_from_slice(&x[back + 1..]);
-        Some(2 * high_ones + low_ones + 4 - symbol(x[back]))
-    }
-
-    /// The place, from 1, of the changed bit of a layer; 0 if none is changed.
-    #[inline(always)]
-    fn changed(&self, x: &[u8], to: u32, from: u32, layer: u8) -> Option<usize> {
-        let (k, modulus) = (self.lay.k as u32, self.lay.modulus);
-        if to == from {
-            return Some(0);
-        }
-        let delta = if to > from {
-            to - from
-        } else {
-            to + modulus - from
-        };
-        let place = if delta <= k { delta } else { modulus - delta } as usize;
-        let fits = delta == k || (x[place - 1] & layer != 0) == (delta > k);
-        fits.then_some(place)
-    }
-
-    /// One bit less: the place of the bit to put in and the bit.
-    #[inline(always)]
-    fn missing(&self, x: &[u8], to: u32, sum: u32, ones: u32, layer: u8) -> Option<(usize, u8)> {
-        let lay = self.lay;
-        let delta = lay.reduce(to + lay.modulus - lay.reduce(sum));
-        if delta <= ones {
-            Some((place_after(x, layer, layer, ones - delta), 0))
-        } else if delta <= lay.k as u32 {
-            Some((place_after(x, layer, 0, delta - ones - 1), layer))
-        } else {
-            None
-        }
-    }
-
-    /// One bit more: the place of the bit to leave out.
-    #[inline(always)]
-    fn spare(&self, x: &[u8], to: u32, sum: u32, ones: u32, layer: u8) -> Option<usize> {
-        let lay = self.lay;
-        let delta = lay.reduce(sum + lay.modulus - to);
-        if delta == ones {
-            return Some(0);
-        }
-        let (place, bit) = if delta < ones {
-            (place_after(x, layer, layer, ones - delta), 0)
-        } else if delta <= lay.k as u32 + 1 {
-            (place_after(x, layer, 0, delta - ones), layer)
-        } else {
-            return None;
-        };
-        (x.get(place)? & layer == bit).then_some(place)
-    }
-
-    /// Step 10: the start of the next clean segment.
-    #[inline(never)]
-    fn scan(&self, p: usize, n: usize) -> Option<usize> {
-        let middle = p + n;
-        let stands = |start: usize| {
-            let before = self.s.get(start - 1);
-            before.is_some_and(|&f| self.clean(start, f))
-        };
-        if stands(middle) {
-            return Some(middle);
-        }
-        for d in 1..=8 {
-            if d < n && stands(middle - d) {
-                return Some(middle - d);
-            }
-            if stands(middle + d) {
-                return Some(middle + d);
+            Err(step) => {
+                packer.put::<K, C>(&[0; C]);
+                sheet.add(Verdict::Lost { step });
+                if last {
+                    break;
+                }
+                // Step 10.
+                let own = p + Shape::<K, C>::BODY + if f.is_some() { 2 } else { 0 };
+                let Some(start) = scan::<K, C>(strand, p, own) else {
+                    break;
+                };
+                (p, f) = (start, Some(strand.symbols[start - 1]));
             }
         }
-        None
     }
+    for _ in i..l {
+        packer.put::<K, C>(&[0; C]);
+        sheet.add(Verdict::NoStart);
+    }
+    sheet
 }
 
 /// Reads a strand; hands back the counts of clean, corrected and lost segments.
-#[inline(never)]
 pub fn read(
     k: u32,
     b: u32,
@@ -795,58 +1167,27 @@ pub fn read(
     message: &mut [u8],
     sheet: &mut [u8],
 ) -> Result<[u32; 3], Refused> {
-    let lay = layout(k, b, true)?;
-    if letters.len() > LONGEST {
+    let l = segments_of(k, b, None)?;
+    if letters.len() > 2048 {
         return refuse(4);
     }
-    let sheet = sheet.get_mut(..lay.l.div_ceil(4));
-    let (Some(message), Some(sheet)) = (message.get_mut(..lay.b), sheet) else {
+    let (Some(message), Some(sheet)) = (
+        message.get_mut(..b as usize),
+        sheet.get_mut(..l.div_ceil(4)),
+    ) else {
         return refuse(5);
     };
-    if let Some(place) = foreign(letters) {
-        return Err(Refused { number: 6, place });
-    }
-    let (k, l) = (lay.k, lay.l);
-    let reader = Reader {
-        lay: &lay,
-        s: letters,
+    let mut strand = Strand {
+        symbols: [PAST; 2048],
+        length: letters.len(),
     };
-    let mut marks = [0; 16];
-    let (mut corrected, mut lost) = (0, 0);
-    let mut at = At { i: 0, p: 0, f: 0 };
-    loop {
-        if k % 4 == 0 {
-            reader.clean_ones::<true>(&mut at, message);
-        } else {
-            reader.clean_ones::<false>(&mut at, message);
-        }
-        let At { i, p, .. } = at;
-        if i == l {
-            break;
-        }
-        let shift = 6 - 2 * (i & 3);
-        if let Some((p, f)) = reader.edited(&at, message) {
-            marks[i / 4] |= 1 << shift;
-            corrected += 1;
-            at = At { i: i + 1, p, f };
-            continue;
-        }
-        let n = k + lay.t + if i == 0 { 4 } else { 6 };
-        let next = if i + 1 == l { None } else { reader.scan(p, n) };
-        let Some(p) = next else {
-            for i in i..l {
-                marks[i / 4] |= 2 << (6 - 2 * (i & 3));
-            }
-            lost += l - i;
-            clear(message, i * k, (l - i) * k);
-            break;
-        };
-        marks[i / 4] |= 2 << shift;
-        lost += 1;
-        clear(message, i * k, k);
-        let f = letters[p - 1];
-        at = At { i: i + 1, p, f };
+    strand.fill(letters)?;
+    let read = by_k!(k, read_all(l, &strand, message));
+    let mut marks = read.marks << (128 - 2 * l);
+    for byte in sheet {
+        *byte = (marks >> 120) as u8;
+        marks <<= 8;
     }
-    sheet.copy_from_slice(&marks[..sheet.len()]);
-    Ok([l - corrected - lost, corrected, lost].map(|count| count as u32))
+    let clean = l as u32 - read.corrected - read.lost;
+    Ok([clean, read.corrected, read.lost])
 }
