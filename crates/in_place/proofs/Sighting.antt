@@ -1,15 +1,15 @@
 -- A written segment stands in its place where its parts do.
-use mathlib.Core.Path.{_≡_, refl, sym, ap, subst, _∙_}
+use mathlib.Core.Path.{_≡_, refl, sym, ap, _∙_}
 use mathlib.Core.Bool.{Bool, true, false, cond, true≢false, _&&_}
-use mathlib.Core.List.{List, [], _∷_, _++_}
+use mathlib.Core.List.{List, [], _∷_}
 use Prim.Native.Nat.{ℕ, zero, suc, _+_, _-_, _≤_, _<_}
 use native.Mathlib.Omega.{arith}
 use native.Mathlib.Decide.{decLe}
-use borrow.Author.Tests.{eq-eqb, ne-eqb, eqb-true}
+use borrow.Author.Tests.{eq-eqb, eqb-true}
 use lib.Dec.{eqb}
-use lib.ListN.{length, getD, take, drop, length-drop}
-use lib.Seq.{drop-drop, getD-drop, getD-take, length-take-le, take-all}
-use Rattle.code.specs.Segment.{check, sep, separator, syndromeOf, marker, block, segment, size}
+use lib.ListN.{length, take, drop, length-drop}
+use lib.Seq.{drop-drop, length-take-le, take-all}
+use Rattle.code.specs.Segment.{check, separator, syndromeOf, marker, block, segment, size}
 use Rattle.code.specs.SegmentLaws.{length-segment}
 use Rattle.code.specs.Layers.{width}
 use Rattle.code.specs.Reading.{starts, twoEqual, whole, dataAt}

@@ -2,9 +2,9 @@
 --   number-of   the number that a layer of the syndrome symbols writes
 --   same, other equal numbers, or one that differs
 --   first-two   the first two syndrome symbols, where the syndrome stands
-use mathlib.Core.Path.{_≡_, refl, sym, ap, subst, _∙_}
+use mathlib.Core.Path.{_≡_, refl, sym, ap, _∙_}
 use mathlib.Core.Bool.{Bool, true, false}
-use mathlib.Core.List.{List, _++_}
+use mathlib.Core.List.{List}
 use Prim.Native.Nat.{ℕ, _+_, _-_, _*_, _≤_, _<_}
 use native.Mathlib.Nat.{mod-eq-of-lt}
 use native.Mathlib.Omega.{arith}
@@ -14,7 +14,7 @@ use lib.ListN.{length, getD, take, drop, take-append-drop, length-drop}
 use lib.Seq.{take-at, getD-take, getD-drop, length-take-le}
 use Rattle.code.specs.Symbols.{Below}
 use Rattle.code.specs.BelowLaws.{below-take, below-drop}
-use Rattle.code.specs.Layers.{Word, layer, pair, syndrome, width, bits, number}
+use Rattle.code.specs.Layers.{layer, syndrome, width, bits, number}
 use Rattle.code.specs.LayersLaws.{length-layer, length-bits, layer-pair-high, layer-pair-low, pair-layers, number-bits, bits-number, syndrome-below, width-least}
 use Rattle.code.specs.Segment.{check, sep, separator, syndromeOf}
 use Rattle.code.specs.SegmentLaws.{length-syndrome, width-two}

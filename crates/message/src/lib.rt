@@ -11,7 +11,7 @@ use mending::mended_pair;
 use standing::syndrome_at;
 use tail::Tail;
 ghost use mathlib.Core.Path.{_≡_};
-ghost use Prim.Native.Nat.{_+_, _-_, _<_, _≤_};
+ghost use Prim.Native.Nat.{_+_, _<_, _≤_};
 ghost use lib.ListN.{length, take, drop};
 ghost use Rattle.code.specs.Symbols.{Below};
 ghost use Rattle.code.specs.Layers.{layer, number, sumOfPlaces, width};

@@ -1,10 +1,10 @@
-use mathlib.Core.Path.{_≡_, ap, sym, subst, _∙_}
+use mathlib.Core.Path.{_≡_, ap, sym, _∙_}
 use mathlib.Core.Bool.{true≢false}
 use Prim.Native.Nat.{ℕ, _+_, _-_}
 use native.Mathlib.Omega.{arith}
 use borrow.Author.Needs.{needs}
 use borrow.Author.Tests.{not-true}
-use lib.ListN.{length, take, drop}
+use lib.ListN.{take, drop}
 use Rattle.layers.specs.Answers.{sumsOf}
 use Rattle.in_place.proofs.Sighting.{size-data, ends-nowhere, too-short, hit-marker}
 use Rattle.in_place.proofs.look.Statement.{statement}

@@ -1,14 +1,11 @@
 use mathlib.Core.Path.{_≡_, sym, ap, _∙_}
-use mathlib.Core.Bool.{Bool}
-use Prim.Native.Nat.{ℕ, _+_, _-_, _≤_}
+use Prim.Native.Nat.{ℕ, _+_, _-_}
 use native.Mathlib.Omega.{arith}
 use borrow.Author.Needs.{needs}
 use borrow.Author.Tests.{not-true, not-false}
-use lib.ListN.{length, take, drop}
-use Rattle.code.specs.Layers.{width}
+use lib.ListN.{length}
 use Rattle.code.specs.LayersLaws.{width-least}
 use Rattle.code.specs.Segment.{size}
-use Rattle.layers.specs.Answers.{sumsOf}
 use Rattle.in_place.specs.Sights.{mayEnd}
 use Rattle.in_place.proofs.Sighting.{size-data, ends-nowhere, ends-otherwise, ends-there, too-short, marker-fails, tail-decides, from-to}
 use Rattle.in_place.proofs.segment_end.Statement.{statement}
