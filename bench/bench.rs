@@ -1,4 +1,4 @@
-//! Letters written and read a second: the library against the tuned rival.
+//! Letters written and read a second: the library against the tuned rival, or against the library of another commit.
 
 #[allow(dead_code)]
 #[path = "../tests/outside/ffi.rs"]
@@ -7,6 +7,7 @@ mod ffi;
 #[path = "../tests/outside/strands.rs"]
 mod strands;
 #[allow(dead_code)]
+#[cfg_attr(against, path = "against.rs")]
 mod tuned;
 
 use std::hint::black_box;
@@ -14,6 +15,8 @@ use std::process::exit;
 use std::time::Instant;
 use strands::{Damage, Rng};
 
+/// The other side's name in the table.
+const RIVAL: &str = if cfg!(against) { "other" } else { "tuned" };
 const SEED: u64 = 20;
 const STRANDS: usize = 64;
 const ROUNDS: usize = 400;
@@ -206,8 +209,8 @@ fn measure(job: Job, set: &Set) -> Measured {
 }
 
 fn table() {
-    println!("million letters a second, best of {ROUNDS} rounds; ratio library/tuned, median");
-    println!("{:<28} {:>9} {:>9} {:>7}", "", "library", "tuned", "ratio");
+    println!("million letters a second, best of {ROUNDS} rounds; ratio library/{RIVAL}, median");
+    println!("{:<28} {:>9} {:>9} {:>7}", "", "library", RIVAL, "ratio");
     for (k, b) in [(16, 32), (64, 128), (8, 128), (2, 1)] {
         for (name, job) in [
             ("write", Job::Write),

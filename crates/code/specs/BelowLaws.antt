@@ -23,11 +23,3 @@ module _ {n : ℕ} where
   below-drop zero l h = h
   below-drop (suc k) [] h = h
   below-drop (suc k) (x ∷ l) h = below-drop k l (λ i. h (suc i))
-
-  pub below-prefix : (s t : List ℕ) → Below n (s ++ t) → Below n s
-  below-prefix [] t h = λ i. omega (arith, h 0)
-  below-prefix (x ∷ s) t h = below-cons x s (h 0) (below-prefix s t (λ i. h (suc i)))
-
-  pub below-suffix : (s t : List ℕ) → Below n (s ++ t) → Below n t
-  below-suffix [] t h = h
-  below-suffix (x ∷ s) t h = below-suffix s t (λ i. h (suc i))

@@ -1,6 +1,6 @@
 -- Edits of one segment.
 --   applied   a list under an edit
---   fits      the edit's place is one of the list's, and its symbol is one
+--   Fits      the edit's place is one of the list's, and its symbol is one
 --   same      two lists are equal, as a test
 --   judged    the edit that turns a written segment into a piece, the smallest place first
 use mathlib.Core.Bool.{Bool, true, false, cond, _&&_}

@@ -3,6 +3,7 @@
 --   labelBytes    the label's four bytes
 --   numberOf4     the number that four bytes write
 --   labelTest     the tests of a label that is written, 1, 2, 3 and 5
+--   labelCall     what writing a label answers, and the lent buffer afterwards
 --   orderOf       what a label that is read answers, by the tests 5, 8, 1, 2 and 3
 use mathlib.Core.Bool.{false, not, _||_}
 use mathlib.Core.List.{List, [], _∷_}
@@ -14,7 +15,8 @@ use Rattle.code.specs.declared.Checked.{Checked}
 use Rattle.code.specs.declared.Checked.the-variants.{Fine, Refused}
 use Rattle.code.specs.declared.Order.{Order}
 use Rattle.code.specs.declared.Order.the-variants as O
-use Rattle.code.specs.Refusals.{refuse, orderTest}
+use Rattle.code.specs.Refusals.{refuse, unlessRefused, orderTest}
+use Rattle.code.specs.Writing.{overFront}
 
 -- the label as a number: edition 1, k and B
 abbrev pub labelNumber : ℕ → ℕ → ℕ
@@ -49,6 +51,10 @@ spareOf n = n % 2 ^ 13
 abbrev pub labelTest : ℕ → ℕ → ℕ → Checked
 labelTest k b n = orderTest k b false (refuse (ltb n 4) ShortBuffer Fine)
 
+-- what writing the label of k and B to a buffer answers, and the buffer afterwards: unchanged where it is refused
+abbrev pub labelCall : ℕ → ℕ → List ℕ → Checked × List ℕ
+labelCall k b out = unlessRefused (labelTest k b (length out)) (Fine, overFront (labelBytes k b) out) (λ r. (Refused r, out))
+
 -- the tests of a label that is read
 abbrev pub readTest : List ℕ → Checked
 readTest bs =
@@ -56,11 +62,6 @@ readTest bs =
     (refuse (not (eqb (editionOf (numberOf4 bs)) 1) || not (eqb (spareOf (numberOf4 bs)) 0)) Label
     (orderTest (kOf (numberOf4 bs)) (bOf (numberOf4 bs)) false Fine))
 
--- k and B, or the refusal
-abbrev pub given : Checked → ℕ → ℕ → Order
-given Fine k b = O.Is k b
-given (Refused r) k b = O.Refused r
-
 -- what a label that is read answers
 abbrev pub orderOf : List ℕ → Order
-orderOf bs = given (readTest bs) (kOf (numberOf4 bs)) (bOf (numberOf4 bs))
+orderOf bs = unlessRefused (readTest bs) (O.Is (kOf (numberOf4 bs)) (bOf (numberOf4 bs))) O.Refused

@@ -25,9 +25,9 @@ use Rattle.code.specs.declared.Checked.{Checked}
 use Rattle.code.specs.declared.Checked.the-variants.{Fine, Refused}
 use Rattle.code.specs.declared.Order.the-variants as O
 use Rattle.code.specs.Symbols.{Below}
-use Rattle.code.specs.Refusals.{refuse, orderTest}
+use Rattle.code.specs.Refusals.{refuse, unlessRefused, orderTest}
 use Rattle.code.specs.RefusalsLaws.{or-false, order-fine}
-use Rattle.code.specs.Label.{labelNumber, fourBytes, labelBytes, numberOf4, editionOf, kOf, bOf, spareOf, readTest, given, orderOf}
+use Rattle.code.specs.Label.{labelNumber, fourBytes, labelBytes, numberOf4, editionOf, kOf, bOf, spareOf, readTest, orderOf}
 
 -- the four bytes of a number of 32 bits, as a sum
 four-sum : (n : ℕ) → n < 2 ^ 32 → (n / 2 ^ 24 % 256) * 2 ^ 24 + (n / 2 ^ 16 % 256) * 2 ^ 16 + (n / 2 ^ 8 % 256) * 2 ^ 8 + n % 256 ≡ n
@@ -87,7 +87,7 @@ module _ (bs : List ℕ) where
   pub order-spare : 4 ≤ length bs → editionOf (numberOf4 bs) ≡ 1 → (spareOf (numberOf4 bs) ≡ 0 → ⊥) → orderOf bs ≡ O.Refused Label
   order-spare h e s = rw (le-ltb (length bs) 4 h, e, ne-eqb (spareOf (numberOf4 bs)) 0 s)
 
-  pub order-tested : 4 ≤ length bs → editionOf (numberOf4 bs) ≡ 1 → spareOf (numberOf4 bs) ≡ 0 → orderOf bs ≡ given (orderTest (kOf (numberOf4 bs)) (bOf (numberOf4 bs)) false Fine) (kOf (numberOf4 bs)) (bOf (numberOf4 bs))
+  pub order-tested : 4 ≤ length bs → editionOf (numberOf4 bs) ≡ 1 → spareOf (numberOf4 bs) ≡ 0 → orderOf bs ≡ unlessRefused (orderTest (kOf (numberOf4 bs)) (bOf (numberOf4 bs)) false Fine) (O.Is (kOf (numberOf4 bs)) (bOf (numberOf4 bs))) O.Refused
   order-tested h e s = rw (le-ltb (length bs) 4 h, e, s)
 
 -- the answer to bytes whose number has these fields
@@ -124,7 +124,7 @@ two-fine false true r s next e = let n : _≡_ {A = ℕ} 0 1 = cc in absurd (ome
 two-fine false false r s next e = (refl, refl, e)
 
 -- k and B are given only where nothing is against them
-given-is : (c : Checked) (k b k′ b′ : ℕ) → given c k b ≡ O.Is k′ b′ → (c ≡ Fine) × (k ≡ k′) × (b ≡ b′)
+given-is : (c : Checked) (k b k′ b′ : ℕ) → unlessRefused c (O.Is k b) O.Refused ≡ O.Is k′ b′ → (c ≡ Fine) × (k ≡ k′) × (b ≡ b′)
 given-is Fine k b k′ b′ e = (refl, cc, cc)
 given-is (Refused r) k b k′ b′ e = let n : _≡_ {A = ℕ} 0 1 = cc in absurd (omega arith)
 

@@ -1,5 +1,6 @@
 -- A layout, the lengths of a strand's messages; and the written strand.
 --   sum       the number of symbols of a layout
+--   Lengths   the lengths that a layout may have
 --   cut       symbols cut into messages by a layout
 --   joined    messages joined
 --   written   the segments of messages, one after the other
@@ -8,14 +9,20 @@
 --   layoutOf  the layout of l equal lengths
 use mathlib.Core.Bool.{Bool, true, false}
 use mathlib.Core.List.{List, [], _∷_, _++_}
-use Prim.Native.Nat.{ℕ, _+_, _*_, _/_}
+use Prim.Native.Nat.{ℕ, _+_, _*_, _/_, _≤_}
 use lib.ListN.{take, drop, replicate}
+use Rattle.code.specs.Refusals.{leastLength}
 use Rattle.code.specs.Segment.{segment, lastOf, size}
 
 -- the number of symbols of a layout
 unfoldable pub sum : List ℕ → ℕ
 sum [] = 0
 sum (k ∷ ks) = k + sum ks
+
+-- every length of a layout is at least the smallest, and at most `most`
+pub data Lengths (most : ℕ) : List ℕ → Type 0 where
+  done : Lengths most []
+  more : {k : ℕ} {ks : List ℕ} → leastLength ≤ k → k ≤ most → Lengths most ks → Lengths most (k ∷ ks)
 
 -- symbols cut into messages of the lengths of a layout
 unfoldable pub cut : List ℕ → List ℕ → List (List ℕ)

@@ -2,17 +2,17 @@
 use mathlib.Core.Path.{_≡_, refl, ap, _∙_}
 use mathlib.Core.Bool.{Bool, true, false}
 use mathlib.Core.List.{List, [], _∷_, map}
-use Prim.Native.Nat.{ℕ, zero, suc, _+_, _-_, _*_, _/_, _%_, _<_}
+use Prim.Native.Nat.{ℕ, zero, suc, _+_, _-_, _*_, _/_, _%_, _<_, _≤_}
 use native.Mathlib.Nat.{zero-mul, suc-mul, div-add-mod, mul-comm}
 use native.Mathlib.Omega.{arith}
-use lib.ListN.{length, drop, replicate, length-append, length-drop, take-append-drop}
+use lib.ListN.{length, getD, drop, replicate, length-append, length-drop, take-append-drop}
 use lib.Seq.{take-at, drop-at, length-take-le}
 use Rattle.code.specs.Symbols.{Below}
 use Rattle.code.specs.BelowLaws.{below-append, below-take, below-drop}
 use Rattle.code.specs.Layers.{width}
 use Rattle.code.specs.Segment.{segment, lastOf, size}
 use Rattle.code.specs.SegmentLaws.{length-segment, segment-below}
-use Rattle.code.specs.Layout.{sum, cut, joined, written, extent, layoutOf}
+use Rattle.code.specs.Layout.{sum, Lengths, done, more, cut, joined, written, strand, extent, layoutOf}
 
 -- every message of a list is below n
 pub data Each (P : List ℕ → Type 0) : List (List ℕ) → Type 0 where
@@ -23,6 +23,17 @@ pub sum-equal : (l k : ℕ) → sum (replicate l k) ≡ l * k
 unfolding sum
 sum-equal zero k = omega (arith, zero-mul k)
 sum-equal (suc l) k = omega (arith, suc-mul l k, sum-equal l k)
+
+-- equal lengths within bounds are a layout's
+pub equal-lengths : {most : ℕ} (l k : ℕ) → 2 ≤ k → k ≤ most → Lengths most (replicate l k)
+equal-lengths zero k h m = done
+equal-lengths (suc l) k h m = more h m (equal-lengths l k h m)
+
+-- each length of a layout is within its bounds
+pub lengths-at : {most : ℕ} (ks : List ℕ) (i : ℕ) → Lengths most ks → i < length ks → (2 ≤ getD ks i 0) × (getD ks i 0 ≤ most)
+lengths-at [] i done p = absurd (omega arith)
+lengths-at (k ∷ ks) zero (more h m hs) p = (h, m)
+lengths-at (k ∷ ks) (suc i) (more h m hs) p = lengths-at ks i hs (omega arith)
 
 -- the messages have the lengths of the layout
 pub cut-lengths : (ks s : List ℕ) → length s ≡ sum ks → map length (cut ks s) ≡ ks
@@ -60,6 +71,10 @@ pub length-written : (marked : Bool) (f : ℕ) (ms : List (List ℕ)) → length
 unfolding written extent
 length-written marked f [] = refl
 length-written marked f (m ∷ ms) = simp length-append (omega (arith, length-segment marked f m, length-written true (lastOf m) ms))
+
+-- the strand of symbols cut by a layout too
+pub length-strand-cut : (ks s : List ℕ) → length s ≡ sum ks → length (strand (cut ks s)) ≡ extent false ks
+length-strand-cut ks s e = length-written false 0 (cut ks s) ∙ ap (extent false) (cut-lengths ks s e)
 
 pub written-below : (marked : Bool) (f : ℕ) (ms : List (List ℕ)) → Each (Below 4) ms → Below 4 (written marked f ms)
 unfolding written

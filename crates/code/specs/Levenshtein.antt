@@ -193,11 +193,3 @@ last-out (suc k) (b ∷ r) e = let h = last-out k r (omega arith) in (h .0, ther
 last-in : (c : Bool) (r : Word) → Without c (r ++ (c ∷ [])) r
 last-in c [] = here
 last-in c (x ∷ r) = there (last-in c r)
-
--- the first k bits of a word with one bit put in have the word's syndrome only if they are the word
-pub prefix-more : {b : Bool} {w r : Word} → Without b r w → syndrome (take (length w) r) ≡ syndrome w → take (length w) r ≡ w
-prefix-more {w = w} {r = r} i e = unique (more (last-out (length w) r (without-length i) .1)) (more i) e
-
--- a word with one bit left out and any bit behind it has the word's syndrome only if it is the word
-pub prefix-less : {b : Bool} (c : Bool) {w r : Word} → Without b w r → syndrome (r ++ (c ∷ [])) ≡ syndrome w → r ++ (c ∷ []) ≡ w
-prefix-less c {r = r} i e = unique (less (last-in c r)) (less i) e

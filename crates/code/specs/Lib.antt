@@ -12,10 +12,12 @@ pub mod RepairLaws
 pub mod Places
 pub mod Segment
 pub mod SegmentLaws
-pub mod Layout
-pub mod LayoutLaws
 pub mod Refusals
 pub mod RefusalsLaws
+pub mod Layout
+pub mod LayoutLaws
+pub mod Bounds
+pub mod Verdicts
 pub mod Writing
 pub mod WritingLaws
 pub mod Label
@@ -43,8 +45,11 @@ pub mod Demand3
 pub mod WithinLimits
 pub mod MessageLengths
 pub mod MessageBelow
+pub mod LostSteps
+pub mod VerdictsLaws
 pub mod ReadCall
 pub mod ReadDemand
 pub mod ReadCallLaws
+pub mod ReadDemandLaws
 pub mod Samples
 pub mod Runs

@@ -1,4 +1,4 @@
--- Laws of lists: buffers whose front is written entry by entry, blocks put into a buffer, and tables.
+-- Laws of lists: buffers whose front is written entry by entry, equal entries, and blocks put into a buffer.
 --   put-more      one more entry behind those already written
 --   put-four      four more entries behind them
 --   drop-inside   an entry is left, so the place is one of the list's
@@ -7,9 +7,8 @@
 --   write-all     the whole of the list is written
 --   drop-four     the next four entries of a list
 --   take-replicate    the front of equal entries
+--   replicate-more    one more of them
 --   putAt         a buffer after a block is put at a place
---   tabulate      the values of a function at successive numbers
---   tabulate-at   an entry of such a list
 use mathlib.Core.Path.{_≡_, refl, sym, ap, _∙_}
 use mathlib.Core.List.{List, [], _∷_, _++_, append-assoc, append-nil}
 use Prim.Native.Nat.{ℕ, zero, suc, _+_, _<_, _≤_}
@@ -75,6 +74,11 @@ take-replicate zero n x h = refl
 take-replicate (suc l) zero x h = absurd (omega arith)
 take-replicate (suc l) (suc n) x h = ap (λ r. x ∷ r) (take-replicate l n x (omega arith))
 
+-- one more of equal entries
+pub replicate-more : (n x : ℕ) → replicate n x ++ x ∷ [] ≡ replicate (suc n) x
+replicate-more zero x = refl
+replicate-more (suc n) x = ap (_∷_ x) (replicate-more n x)
+
 -- the buffer d after the block b is put at place i
 unfoldable pub putAt : List ℕ → ℕ → List ℕ → List ℕ
 putAt d i b = take i d ++ b ++ drop (i + length b) d
@@ -120,15 +124,3 @@ module _ (d : List ℕ) (i : ℕ) (b : List ℕ) (room : i + length b ≤ length
   put-one v h =
       let n : i + length (b ++ v ∷ []) ≡ i + length b + 1 = simp length-append (omega arith) in
       put-more (take i d ++ b) d (i + length b) v put-front h ∙ rw (n, append-assoc (take i d) b (v ∷ []))
-
--- f i, f (i + 1), .., n values
-abbrev pub tabulate : (ℕ → ℕ) → ℕ → ℕ → List ℕ
-tabulate f i zero = []
-tabulate f i (suc n) = f i ∷ tabulate f (suc i) n
-
-pub tabulate-at : (f : ℕ → ℕ) (n i k : ℕ) → k < n → getD (tabulate f i n) k 0 ≡ f (k + i)
-tabulate-at f zero i k h = absurd (omega arith)
-tabulate-at f (suc n) i zero h = let e : i ≡ 0 + i = omega arith in ap f e
-tabulate-at f (suc n) i (suc k) h =
-    let e : k + suc i ≡ suc k + i = omega arith in
-    tabulate-at f n (suc i) k (omega arith) ∙ ap f e

@@ -22,7 +22,7 @@ use Rattle.code.specs.Repair.{repair}
 use Rattle.code.specs.Segment.{lastOf, size}
 use Rattle.code.specs.Layout.{joined}
 use Rattle.code.specs.Reading.{Shift, moved, whole, dataAt, separatorAt, afterSeparator, checkAgrees, Got, message, bothLayers, repaired, linkOf, taken, messageAt, messageWithout, gotWhole, gotHit, got, One, read, readOne}
-use Rattle.code.specs.Strands.{Outcome, scan, unfound, withScan, withOne, reading, messagesOf, markOf, marksOf}
+use Rattle.code.specs.Strands.{Outcome, scan, unfound, withScan, withOne, reading, messagesOf, verdictsOf, markOf, marksOf}
 use Rattle.code.specs.MessageLengths.{read-got}
 
 -- two layers make symbols
@@ -104,6 +104,6 @@ mark-below (Lost step) = omega arith
 mark-below NoStart = omega arith
 
 -- the marks of outcomes fit two bits
-pub marks-below : (os : List Outcome) → Below 4 (marksOf os)
+pub marks-below : (os : List Outcome) → Below 4 (marksOf (verdictsOf os))
 marks-below [] = λ i. omega arith
-marks-below (o ∷ os) = below-cons (markOf (o .verdict)) (marksOf os) (mark-below (o .verdict)) (marks-below os)
+marks-below (o ∷ os) = below-cons (markOf (o .verdict)) (marksOf (verdictsOf os)) (mark-below (o .verdict)) (marks-below os)

@@ -22,11 +22,10 @@ use Rattle.code.specs.LinksLaws.{linked-length}
 use Rattle.code.specs.Repair.{repair}
 use Rattle.code.specs.RepairLaws.{repair-found}
 use Rattle.code.specs.Segment.{check, segment, lastOf, size}
-use Rattle.code.specs.Layout.{sum, joined}
+use Rattle.code.specs.Layout.{sum, joined, Lengths, done, more}
 use Rattle.code.specs.Edits.{judged}
 use Rattle.code.specs.Reading.{starts, threeEqual, Shift, level, early, late, moved, whole, dataAt, separatorAt, afterSeparator, checkAgrees, Got, message, bothLayers, repaired, linkOf, taken, messageAt, messageWithout, gotWhole, gotHit, got, endOf, One, read, withEdit, withEnd, withMessage, readOne}
 use Rattle.code.specs.Strands.{Outcome, scan, unfound, withScan, withOne, reading, messagesOf}
-use Rattle.code.specs.Demand3.{Lengths, done, more}
 
 three-long : (w : List ℕ) → threeEqual w ≡ true → 3 ≤ length w
 unfolding threeEqual
@@ -39,7 +38,7 @@ three-inside : (n : ℕ) (d : List ℕ) → threeEqual (drop n d) ≡ true → n
 three-inside n d e = omega (arith, three-long (drop n d) e, length-drop n d)
 
 -- a separator that is found lies inside the strand
-separator-inside : (k : ℕ) (d : List ℕ) (j : Shift) → separatorAt k d ≡ some j → moved j (k + 1) + 3 ≤ length d
+pub separator-inside : (k : ℕ) (d : List ℕ) (j : Shift) → separatorAt k d ≡ some j → moved j (k + 1) + 3 ≤ length d
 unfolding separatorAt
 separator-inside k d j e = go _ _ _ refl refl refl e
   where
@@ -155,10 +154,10 @@ unfound-messages [] = refl
 unfound-messages (k ∷ ks) = simp (length-append, length-replicate) (omega (arith, unfound-messages ks))
 
 -- the messages of a reading have the symbols of the layout
-pub length-messages : (marked : Bool) (f : ℕ) (ks s raw : List ℕ) → Lengths ks → length (messagesOf (reading marked f ks s raw)) ≡ sum ks
+pub length-messages : {most : ℕ} (marked : Bool) (f : ℕ) (ks s raw : List ℕ) → Lengths most ks → length (messagesOf (reading marked f ks s raw)) ≡ sum ks
 unfolding reading joined sum
 length-messages marked f [] s raw done = refl
-length-messages marked f (k ∷ ks) s raw (more two ls) = go (readOne marked f k ks s raw) refl (λ g o. length-messages true g ks (drop o s) (drop o raw) ls)
+length-messages marked f (k ∷ ks) s raw (more two _ ls) = go (readOne marked f k ks s raw) refl (λ g o. length-messages true g ks (drop o s) (drop o raw) ls)
   where
     next : ℕ → ℕ → List Outcome
     next g o = reading true g ks (drop o s) (drop o raw)

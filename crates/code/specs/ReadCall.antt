@@ -1,4 +1,4 @@
--- What the reading call and the piece call test, answer and write.
+-- What the reading call and the piece calls test, answer and write.
 --   sheetBytes    the bytes of a sheet
 --   foreignTest   test 6 before others
 --   overlong      test 4
@@ -7,13 +7,14 @@
 --   readTest      the tests 1 to 6 of a reading
 --   pieceTest     the tests of a piece call
 --   outcomesOf    the outcomes of letters, for k and B
---   countedOf     the reader's answer
---   bytesOf       the bytes of a reading
---   sheetFor      the sheet of a reading
+--   marksFor      the marks of letters, for k and B
+--   readAs        a reading's answer and its buffers, from the outcomes
+--   readCall      the reader's answer, and both lent buffers afterwards
 --   startOf       where a piece starts
 --   pieceOf       the letters of a piece
---   partOf        what a piece call hands back
---   locatedOf     where it stands
+--   pieceCall     the part that a piece call hands back, and the refusal's number and place
+--   locatedAs     where a piece stands
+--   locateCall    where the piece of a segment stands, or the refusal
 use mathlib.Core.Bool.{Bool, false, _||_}
 use mathlib.Core.List.{List, [], map}
 use Prim.Native.Nat.{ℕ, _+_, _-_, _/_}
@@ -30,8 +31,9 @@ use Rattle.code.specs.declared.Located.{Located}
 use Rattle.code.specs.declared.Located.the-variants as L
 use Rattle.code.specs.Symbols.{legible, decoded, bytes}
 use Rattle.code.specs.Layout.{sum, layoutOf}
-use Rattle.code.specs.Refusals.{refuse, mostLetters, outside, orderTest}
-use Rattle.code.specs.Strands.{Outcome, outcomes, messagesOf, marksOf, sheetOf, countOf}
+use Rattle.code.specs.Refusals.{numberOf, placeOf, refuse, unlessRefused, mostLetters, outside, orderTest}
+use Rattle.code.specs.Writing.{overFront}
+use Rattle.code.specs.Strands.{Outcome, outcomes, messagesOf, verdictsOf, marksOf, sheetOf, countsOf}
 
 -- the bytes of a sheet of l marks
 abbrev pub sheetBytes : ℕ → ℕ
@@ -72,18 +74,22 @@ pieceTest k b cs i =
 abbrev pub outcomesOf : ℕ → ℕ → List ℕ → List Outcome
 outcomesOf k b cs = outcomes (layoutOf k b) (legible cs)
 
--- how many marks are clean, corrected and lost, or the refusal
-abbrev pub countedOf : Checked → List ℕ → Counted
-countedOf Fine marks = N.Counts (countOf 0 marks) (countOf 1 marks) (countOf 2 marks)
-countedOf (Refused r) marks = N.Refused r
+-- the marks of the segments of letters, for k and B
+abbrev pub marksFor : ℕ → ℕ → List ℕ → List ℕ
+marksFor k b cs = marksOf (verdictsOf (outcomesOf k b cs))
 
--- the bytes that letters are read as, for k and B
-abbrev pub bytesOf : ℕ → ℕ → List ℕ → List ℕ
-bytesOf k b cs = bytes (messagesOf (outcomesOf k b cs))
+-- what a reading that is taken answers, and leaves in the buffers lent for the message and the sheet
+abbrev pub readAs : List Outcome → List ℕ → List ℕ → Counted × (List ℕ × List ℕ)
+readAs os message sheet =
+    let marks = marksOf (verdictsOf os) in
+    (countsOf marks, (overFront (bytes (messagesOf os)) message, overFront (sheetOf marks) sheet))
 
--- the sheet of the marks of letters, for k and B
-abbrev pub sheetFor : ℕ → ℕ → List ℕ → List ℕ
-sheetFor k b cs = sheetOf (marksOf (outcomesOf k b cs))
+-- what reading letters cs for k and B answers, and the buffers for message and sheet afterwards: unchanged where it is refused
+abbrev pub readCall : ℕ → ℕ → List ℕ → List ℕ → List ℕ → Counted × (List ℕ × List ℕ)
+readCall k b cs message sheet =
+    unlessRefused (readTest k b cs (length message) (length sheet))
+    (readAs (outcomesOf k b cs) message sheet)
+    (λ r. (N.Refused r, (message, sheet)))
 
 -- the pieces of outcomes
 abbrev pub piecesOf : List Outcome → List (List ℕ)
@@ -101,12 +107,17 @@ pieceLength os i = getD (map length (piecesOf os)) i 0
 abbrev pub pieceOf : List Outcome → List ℕ → ℕ → List ℕ
 pieceOf os cs i = take (pieceLength os (i - 1)) (drop (startOf os (i - 1)) cs)
 
--- the part that a piece call hands back: the piece, or an empty part
-abbrev pub partOf : Checked → List ℕ → List ℕ
-partOf Fine piece = piece
-partOf (Refused r) piece = []
+-- the piece of segment i of letters cs for k and B, with 0 and 0; or an empty part, with the refusal's number and place
+abbrev pub pieceCall : ℕ → ℕ → List ℕ → ℕ → List ℕ × (ℕ × ℕ)
+pieceCall k b cs i =
+    unlessRefused (pieceTest k b cs i)
+    (pieceOf (outcomesOf k b cs) cs i, (0, 0))
+    (λ r. ([], (numberOf r, placeOf r)))
 
--- where a piece stands, from its start and its length, or the refusal
-abbrev pub locatedOf : Checked → ℕ → ℕ → Located
-locatedOf Fine start n = L.At start (start + n)
-locatedOf (Refused r) start n = L.Refused r
+-- where the piece behind the first i pieces stands
+abbrev pub locatedAs : List Outcome → ℕ → Located
+locatedAs os i = L.At (startOf os i) (startOf os i + pieceLength os i)
+
+-- where the piece of segment i stands, or the refusal
+abbrev pub locateCall : ℕ → ℕ → List ℕ → ℕ → Located
+locateCall k b cs i = unlessRefused (pieceTest k b cs i) (locatedAs (outcomesOf k b cs) (i - 1)) L.Refused

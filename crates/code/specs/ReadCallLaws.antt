@@ -5,11 +5,7 @@
 --   read-short, read-foreign, read-fine           the tests of a reading behind 1 to 4, in their order
 --   piece-foreign, piece-outside, piece-fine      those of a piece call
 --   received-taken, piece-taken                   what holds of a call that is taken
---   only-short        of a strand that keeps the one-edit conditions only test 5 can be met
---   Kept, kept        what holds of the reading of such a strand
---   length-sheet      the bytes of a reading's sheet
---   length-bytes-of   the bytes of a reading
---   demand-3-holds    demand 3 holds of a call that answers and writes what is defined
+--   length-sheet      the bytes of a sheet
 --   piece-inside      a piece lies inside the caller's letters
 --   piece-letters     its letters are those of the outcome's piece
 use mathlib.Core.Path.{_≡_, refl, sym, ap, _∙_}
@@ -18,7 +14,7 @@ use mathlib.Core.List.{List, [], _∷_, _++_, map}
 use Prim.Native.Nat.{ℕ, zero, suc, _+_, _-_, _*_, _/_, _%_, _≤_}
 use native.Mathlib.Omega.{arith}
 use borrow.Author.Tests.{ltb-false, le-ltb}
-use lib.ListN.{length, getD, take, drop, replicate, length-map, length-append, length-replicate}
+use lib.ListN.{length, getD, take, drop, replicate, length-append, length-replicate}
 use lib.Seq.{take-at, drop-append-add}
 use Rattle.code.specs.declared.Decoded.{Decoded}
 use Rattle.code.specs.declared.Decoded.the-variants as D
@@ -26,23 +22,14 @@ use Rattle.code.specs.declared.Refusal.{Refusal}
 use Rattle.code.specs.declared.Refusal.the-variants.{Overlong, ShortBuffer, ForeignLetter, NoSuchSegment}
 use Rattle.code.specs.declared.Checked.{Checked}
 use Rattle.code.specs.declared.Checked.the-variants.{Fine, Refused}
-use Rattle.code.specs.declared.Counted.{Counted}
-use Rattle.code.specs.declared.Counted.the-variants as N
-use Rattle.code.specs.Symbols.{Below, letterOf, letters, legible, decoded, symbols, bytes}
-use Rattle.code.specs.SymbolsLaws.{legible-letters, whole-letters, whole-length, length-symbols, symbols-below, bytes-symbols, length-bytes}
-use Rattle.code.specs.Layout.{sum, cut, joined, layoutOf}
-use Rattle.code.specs.LayoutLaws.{layout-sum}
+use Rattle.code.specs.Symbols.{letterOf, letters, legible, decoded}
+use Rattle.code.specs.SymbolsLaws.{whole-letters, whole-length, length-bytes}
+use Rattle.code.specs.Layout.{sum, joined, layoutOf}
 use Rattle.code.specs.Refusals.{refuse, mostLetters, outside, orderTest}
 use Rattle.code.specs.RefusalsLaws.{order-fine, order-then, order-refused}
-use Rattle.code.specs.Writing.{bufferOf}
-use Rattle.code.specs.Conditions.{OneEdit}
-use Rattle.code.specs.Strands.{outcomes, messagesOf, marksOf, countOf}
-use Rattle.code.specs.StrandsLaws.{length-reading, joined-pieces}
-use Rattle.code.specs.Demand3.{Lengths, done, more, Regains, demand-3}
-use Rattle.code.specs.WithinLimits.{readable}
-use Rattle.code.specs.MessageLengths.{length-messages}
-use Rattle.code.specs.ReadCall.{sheetBytes, foreignTest, overlong, receivedTest, shortBuffers, readTest, pieceTest, outcomesOf, countedOf, bytesOf, sheetFor, piecesOf, startOf, pieceLength, pieceOf}
-use Rattle.code.specs.ReadDemand.{Demand-3-call}
+use Rattle.code.specs.Strands.{outcomes, sheetOf}
+use Rattle.code.specs.StrandsLaws.{joined-pieces}
+use Rattle.code.specs.ReadCall.{sheetBytes, foreignTest, overlong, receivedTest, shortBuffers, readTest, pieceTest, outcomesOf, piecesOf, startOf, pieceLength, pieceOf}
 
 -- Tests 1 to 4
 
@@ -121,76 +108,11 @@ piece-taken k b cs i e =
     let p = received-taken k b (length cs) _ e in
     (received-fine k b (length cs) (p .0) .0, not-foreign (decoded cs) _ (p .1) .0)
 
--- equal lengths of 2 or more are a layout's
-equal-lengths : (l k : ℕ) → 2 ≤ k → Lengths (replicate l k)
-equal-lengths zero k h = done
-equal-lengths (suc l) k h = more h (equal-lengths l k h)
-
--- of a strand that keeps the conditions only test 5 can be met
-pub only-short : (k b : ℕ) (bs s : List ℕ) (n m : ℕ) → orderTest k b false Fine ≡ Fine → length bs ≡ b → OneEdit (cut (layoutOf k b) (symbols bs)) s → readTest k b (letters s) n m ≡ refuse (shortBuffers k b n m) ShortBuffer Fine
-only-short k b bs s n m o size e =
-    let r = readable k b false bs s (order-fine k b false o) size e in
-    let cs = letters s in
-    let q : length cs ≤ mostLetters = omega (arith, r .short, length-map s letterOf) in
-    received-then k b (length cs) (refuse (shortBuffers k b n m) ShortBuffer (foreignTest (decoded cs) Fine)) (fine-received k b (length cs) o q) ∙ rw (r .no-foreign)
-
--- what holds of the reading of a strand that keeps the conditions for the bytes bs
-pub record Kept (k b : ℕ) (cs bs : List ℕ) (n m : ℕ) : Type 0 where
-  pub message : bytesOf k b cs ≡ bs
-  pub none-lost : countOf 2 (marksOf (outcomesOf k b cs)) ≡ 0
-  pub all-found : countOf 0 (marksOf (outcomesOf k b cs)) + countOf 1 (marksOf (outcomesOf k b cs)) ≡ length (layoutOf k b)
-  pub tested : readTest k b cs n m ≡ refuse (shortBuffers k b n m) ShortBuffer Fine
-
-pub kept : (k b : ℕ) (cs bs s : List ℕ) (n m : ℕ) → orderTest k b false Fine ≡ Fine → length bs ≡ b → Below 256 bs → letters s ≡ cs → OneEdit (cut (layoutOf k b) (symbols bs)) s → Kept k b cs bs n m
-kept k b cs bs s n m o size small same e =
-    let p = order-fine k b false o in
-    let l : legible cs ≡ s = ap legible (sym same) ∙ legible-letters s (readable k b false bs s p size e .small) in
-    let x : length (symbols bs) ≡ sum (layoutOf k b) = length-symbols bs ∙ rw size (sym (layout-sum k b (p .multiple))) in
-    let r : Regains (layoutOf k b) (symbols bs) (legible cs) = rw l (demand-3 (layoutOf k b) (symbols bs) s (equal-lengths (4 * b / k) k (p .least-length)) (symbols-below bs) x e) in
-    record {
-      message = ap bytes (r .message) ∙ bytes-symbols bs small;
-      none-lost = r .none-lost;
-      all-found = r .all-found;
-      tested = ap (λ (c : List ℕ). readTest k b c n m) (sym same) ∙ only-short k b bs s n m o size e;
-    }
-
--- the sheet of l marks has a byte for four of them or fewer
-pub length-sheet : (k b : ℕ) (cs : List ℕ) → length (sheetFor k b cs) ≡ sheetBytes (length (layoutOf k b))
-length-sheet k b cs =
-    let marks = marksOf (outcomesOf k b cs) in
-    let q : length marks ≡ length (layoutOf k b) = simp length-map (length-reading false 0 (layoutOf k b) (legible cs) (legible cs)) in
+-- the sheet of marks has a byte for four of them or fewer
+pub length-sheet : (marks : List ℕ) → length (sheetOf marks) ≡ sheetBytes (length marks)
+length-sheet marks =
     let p : length (marks ++ replicate ((4 - length marks % 4) % 4) 0) ≡ 4 * ((length marks + 3) / 4) = simp (length-append, length-replicate) (omega arith) in
     length-bytes (marks ++ replicate ((4 - length marks % 4) % 4) 0) ∙ omega arith
-
--- the bytes of a reading are B
-pub length-bytes-of : (k b : ℕ) (cs : List ℕ) → orderTest k b false Fine ≡ Fine → length (bytesOf k b cs) ≡ b
-length-bytes-of k b cs o =
-    let p = order-fine k b false o in
-    let q = length-messages false 0 (layoutOf k b) (legible cs) (legible cs) (equal-lengths (4 * b / k) k (p .least-length)) in
-    length-bytes (messagesOf (outcomesOf k b cs)) ∙ omega (arith, q, layout-sum k b (p .multiple))
-
--- demand 3 holds of a call that answers and writes what is defined
-pub demand-3-holds : (k b : ℕ) (cs : List ℕ) (answer : Counted) (old out oldSheet sheet : List ℕ) → answer ≡ countedOf (readTest k b cs (length old) (length oldSheet)) (marksOf (outcomesOf k b cs)) → out ≡ bufferOf (readTest k b cs (length old) (length oldSheet)) (bytesOf k b cs) old → sheet ≡ bufferOf (readTest k b cs (length old) (length oldSheet)) (sheetFor k b cs) oldSheet → Demand-3-call k b cs answer old out oldSheet sheet
-demand-3-holds k b cs answer old out oldSheet sheet ea eo es bs s sent =
-    let t = kept k b cs bs s (length old) (length oldSheet) (sent .order) (sent .size) (sent .are-bytes) (sent .received) (sent .one-edit) in
-    let marks = marksOf (outcomesOf k b cs) in
-    let counted : (c : Checked) → readTest k b cs (length old) (length oldSheet) ≡ c → answer ≡ countedOf c marks = λ c q. ea ∙ ap (λ (d : Checked). countedOf d marks) q in
-    let wrote : (c : Checked) → readTest k b cs (length old) (length oldSheet) ≡ c → out ≡ bufferOf c (bytesOf k b cs) old = λ c q. eo ∙ ap (λ (d : Checked). bufferOf d (bytesOf k b cs) old) q in
-    let marked : (c : Checked) → readTest k b cs (length old) (length oldSheet) ≡ c → sheet ≡ bufferOf c (sheetFor k b cs) oldSheet = λ c q. es ∙ ap (λ (d : Checked). bufferOf d (sheetFor k b cs) oldSheet) q in
-    record {
-      turned-down = λ h. let q : readTest k b cs (length old) (length oldSheet) ≡ Refused ShortBuffer = t .tested ∙ rw h in (counted (Refused ShortBuffer) q, wrote (Refused ShortBuffer) q, marked (Refused ShortBuffer) q);
-      given = λ h.
-          let q : readTest k b cs (length old) (length oldSheet) ≡ Fine = t .tested ∙ rw h in
-          record {
-            clean = countOf 0 marks;
-            corrected = countOf 1 marks;
-            counts = counted Fine q ∙ ap (N.Counts (countOf 0 marks) (countOf 1 marks)) (t .none-lost);
-            all-found = t .all-found;
-            message = wrote Fine q ∙ rw (t .message, sent .size);
-            marks = marked Fine q ∙ rw (length-sheet k b cs);
-            none-lost = t .none-lost;
-          };
-    }
 
 -- The piece call
 

@@ -12,6 +12,15 @@ use lib.Seq.{drop-append-add, drop-append-le, drop-cons}
 use Rattle.code.specs.EditsLaws.{both}
 use Rattle.code.specs.Reading.{starts, twoEqual, threeEqual, level, early, late, separatorAt}
 
+-- a test that holds, or fails, behind another
+pub and-true : (a : Bool) → (a && true) ≡ a
+and-true true = refl
+and-true false = refl
+
+pub and-false : (a : Bool) → (a && false) ≡ false
+and-false true = refl
+and-false false = refl
+
 -- a place behind the first of two joined lists
 pub drop-off : (n : ℕ) (u r : List ℕ) (d : ℕ) → n ≡ length u + d → drop n (u ++ r) ≡ drop d r
 drop-off n u r d e = rw e (drop-append-add u r d)

@@ -1,10 +1,11 @@
 -- What is turned down, and the limits.
---   numberOf    the paper's number of a refusal
---   placeOf     the place that a refusal names
---   testNumber, testPlace   the same of a test's outcome
---   refuse      a test before others
---   limits      k, B, the number of segments, the received strand
---   orderTest   the tests 1, 2 and 3 of k and B
+--   numberOf        the paper's number of a refusal
+--   placeOf         the place that a refusal names
+--   testNumber      the number of a test's outcome
+--   refuse          a test before others
+--   unlessRefused   what is answered after the tests
+--   limits          k, B, the number of segments, the received strand, the written strand
+--   orderTest       the tests 1, 2 and 3 of k and B
 use mathlib.Core.Bool.{Bool, true, false, not, _||_}
 use Prim.Native.Nat.{ℕ, _*_, _/_, _%_}
 use lib.Dec.{eqb, ltb}
@@ -42,15 +43,15 @@ abbrev pub testNumber : Checked → ℕ
 testNumber Fine = 0
 testNumber (Refused r) = numberOf r
 
--- the place that a test's outcome names
-abbrev pub testPlace : Checked → ℕ
-testPlace Fine = 0
-testPlace (Refused r) = placeOf r
-
 -- a test before others: where it is met, its refusal
 abbrev pub refuse : Bool → Refusal → Checked → Checked
 refuse true r c = Refused r
 refuse false r c = c
+
+-- what is answered after the tests: as where nothing is against it, or as the refusal says
+abbrev pub unlessRefused : {A : Type 0} → Checked → A → (Refusal → A) → A
+unlessRefused Fine taken refused = taken
+unlessRefused (Refused r) taken refused = refused r
 
 -- the smallest and the largest length k of a message
 abbrev pub leastLength : ℕ
@@ -70,6 +71,10 @@ mostSegments = 64
 -- the most letters of a received strand
 abbrev pub mostLetters : ℕ
 mostLetters = 2048
+
+-- the most letters of a written strand
+abbrev pub mostWritten : ℕ
+mostWritten = 1150
 
 -- x is outside low .. high
 abbrev pub outside : ℕ → ℕ → ℕ → Bool

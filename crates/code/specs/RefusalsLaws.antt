@@ -5,7 +5,6 @@
 --   order-length, order-size, order-cut   the first test that is met tells the refusal
 --   Ordered              what holds of an order that is taken
 --   order-fine           an order with nothing against it
---   fine-order           nothing is against such an order
 --   order-then           a further test behind those of an order that is taken
 --   order-refused        a further test behind those of an order that is refused
 use mathlib.Core.Path.{_≡_, refl}
@@ -13,7 +12,7 @@ use mathlib.Core.Bool.{Bool, true, false, not, _||_}
 use Prim.Native.Nat.{ℕ, zero, suc, _*_, _/_, _%_, _≤_}
 use native.Mathlib.Nat.{div-add-mod'}
 use native.Mathlib.Omega.{arith}
-use borrow.Author.Tests.{ltb-false, eqb-true, not-false, le-ltb, eq-eqb}
+use borrow.Author.Tests.{ltb-false, eqb-true, not-false}
 use lib.Dec.{eqb, ltb}
 use Rattle.code.specs.declared.Refusal.{Refusal}
 use Rattle.code.specs.declared.Refusal.the-variants.{SegmentLength, MessageSize, Cut}
@@ -89,18 +88,6 @@ order-fine k b other e =
       some-segments = some (4 * b / k) k b whole (bytes-of .0);
       most-segments = cut-of .1;
     }
-
-pub fine-order : (k b : ℕ) (other : Bool) → Ordered k b other → orderTest k b other Fine ≡ Fine
-fine-order k b other o =
-    simp (
-      le-ltb k leastLength (o .least-length),
-      le-ltb mostLength k (o .most-length),
-      le-ltb b 1 (o .some-bytes),
-      le-ltb mostBytes b (o .most-bytes),
-      o .same-size,
-      eq-eqb (4 * b % k) 0 (o .multiple),
-      le-ltb mostSegments (4 * b / k) (o .most-segments),
-    )
 
 -- a further test behind three that are not met
 three-then : (x y z : Bool) (r s t : Refusal) (next : Checked) → refuse x r (refuse y s (refuse z t Fine)) ≡ Fine → refuse x r (refuse y s (refuse z t next)) ≡ next

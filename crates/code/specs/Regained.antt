@@ -13,7 +13,7 @@ use Rattle.code.specs.Edits.{judged}
 use Rattle.code.specs.JudgedLaws.{judged-none}
 use Rattle.code.specs.Reading.{message, read, got, withMessage, readOne}
 use Rattle.code.specs.Conditions.{received, Allowed}
-use Rattle.code.specs.Strands.{Outcome, reading, marksOf, countOf}
+use Rattle.code.specs.Strands.{Outcome, reading, verdictsOf, marksOf, countOf}
 use Rattle.code.specs.OneSegment.{Proper, Step, step}
 use Rattle.code.specs.declared.Edit.{Edit}
 use Rattle.code.specs.declared.Edit.the-variants.{None, Sub, Del, Ins}
@@ -54,7 +54,7 @@ pub record Found (n : ℕ) (marks : List ℕ) : Type 0 where
   pub none-lost : countOf 2 marks ≡ 0
   pub all-found : countOf 0 marks + countOf 1 marks ≡ n
 
-pub whole-marks : {ms : List (List ℕ)} {os : List Outcome} → Whole ms os → Found (length ms) (marksOf os)
+pub whole-marks : {ms : List (List ℕ)} {os : List Outcome} → Whole ms os → Found (length ms) (marksOf (verdictsOf os))
 unfolding countOf
 whole-marks end = record { none-lost = refl; all-found = refl }
 whole-marks (next m None p w) = let f = whole-marks w in record { none-lost = omega arith; all-found = omega arith }

@@ -86,6 +86,10 @@ runs =
     ∷ gives (0 ∷ 1 ∷ 1 ∷ 3 ∷ 3 ∷ 3 ∷ 1 ∷ 1 ∷ 1 ∷ 1 ∷ 2 ∷ 3 ∷ 1 ∷ 2 ∷ 0 ∷ 0 ∷ 0 ∷ 1 ∷ 2 ∷ 3 ∷ 1 ∷ 1 ∷ 3 ∷ 0 ∷ 3 ∷ 1 ∷ 1 ∷ 1 ∷ 0 ∷ 3 ∷ []) (1071 ∷ 0 ∷ 0 ∷ [])
     -- 27. a bad first segment whose last symbol is 1: j = +1, the low layer 100 cannot become 11: step 7; at 8 the marker would be 0 for f = 1, and at no other start do two equal symbols differ from their neighbours
     ∷ gives (1 ∷ 0 ∷ 2 ∷ 0 ∷ 3 ∷ 3 ∷ 3 ∷ 1 ∷ 1 ∷ 1 ∷ 2 ∷ 3 ∷ 1 ∷ 2 ∷ 0 ∷ 0 ∷ 0 ∷ 1 ∷ 2 ∷ 3 ∷ 1 ∷ 1 ∷ 3 ∷ 0 ∷ 3 ∷ 1 ∷ 1 ∷ 1 ∷ 0 ∷ 3 ∷ []) (407 ∷ 500 ∷ 500 ∷ [])
+    -- 28. two bad letters, and clean second segments at 2 and at 14: no separator, check 1 against the sum 2: step 6; the scan finds 2 with d = −6 before 14 with d = +6; the last has 22 letters: step 9
+    ∷ gives (3 ∷ 3 ∷ 1 ∷ 1 ∷ 2 ∷ 3 ∷ 1 ∷ 2 ∷ 0 ∷ 0 ∷ 0 ∷ 1 ∷ 2 ∷ 3 ∷ 1 ∷ 1 ∷ 2 ∷ 3 ∷ 1 ∷ 2 ∷ 0 ∷ 0 ∷ 0 ∷ 1 ∷ 2 ∷ 3 ∷ 1 ∷ 1 ∷ 3 ∷ 0 ∷ 3 ∷ 1 ∷ 1 ∷ 1 ∷ 0 ∷ 3 ∷ []) (406 ∷ 0 ∷ 409 ∷ [])
+    -- 29. a bad first segment of 1 letter: no separator, check 1 against the sum 0: step 6; the scan finds 1, the first start above P, with d = −7, f = 3
+    ∷ gives (3 ∷ 1 ∷ 1 ∷ 2 ∷ 3 ∷ 1 ∷ 2 ∷ 0 ∷ 0 ∷ 0 ∷ 1 ∷ 2 ∷ 3 ∷ 1 ∷ 1 ∷ 3 ∷ 0 ∷ 3 ∷ 1 ∷ 1 ∷ 1 ∷ 0 ∷ 3 ∷ []) (406 ∷ 0 ∷ 0 ∷ [])
     ∷ []
 
 unfoldable pub every : List Run → Bool

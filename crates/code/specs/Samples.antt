@@ -13,7 +13,7 @@ use Rattle.code.specs.Writing.{strandOf}
 use Rattle.code.specs.Label.{labelBytes}
 use Rattle.code.specs.Edits.{same, firstEdit, judged}
 use Rattle.code.specs.Reading.{starts, twoEqual, threeEqual, separatorAt, checkAgrees, syndromeAgrees, repaired, messageAt, messageWithout, got, clean, endOf, readOne}
-use Rattle.code.specs.Strands.{above, pairs, firstStart, scan, reading, outcomes, messagesOf, marksOf, sheetOf}
+use Rattle.code.specs.Strands.{above, pairs, firstStart, scan, reading, outcomes, messagesOf, verdictsOf, marksOf, sheetOf}
 
 -- a row: what is given, and what it must come to
 pub data Row : Type 0 where
@@ -34,7 +34,7 @@ holds (segments ms s) = same (written false 0 ms) s
 holds (separates a b c s) = eqb (sep a b c) s
 holds (writes k b bs s) = same (strandOf (layoutOf k b) bs) s
 holds (reads k b s bs sheet) =
-    same (bytes (messagesOf (outcomes (layoutOf k b) (legible s)))) bs && same (sheetOf (marksOf (outcomes (layoutOf k b) (legible s)))) sheet
+    same (bytes (messagesOf (outcomes (layoutOf k b) (legible s)))) bs && same (sheetOf (marksOf (verdictsOf (outcomes (layoutOf k b) (legible s))))) sheet
 holds (labels k b bs) = same (labelBytes k b) bs
 
 -- the letters A, T, C and G

@@ -7,21 +7,15 @@ use Prim.Native.Nat.{ℕ, _+_, _-_}
 use native.Mathlib.Omega.{arith}
 use lib.ListN.{length, take, drop, length-append}
 use Rattle.code.specs.Layers.{width}
-use Rattle.code.specs.Segment.{check, syndromeOf, separator, marker, block, segment}
+use Rattle.code.specs.Segment.{syndromeOf, marker}
 use Rattle.code.specs.Reading.{Shift, moved, dataAt, separatorAt, afterSeparator, syndromeAgrees, gotWhole, got, message, endOf}
 use Rattle.code.specs.ReadingLaws.{starts-self, two-yes, two-no}
-use Rattle.code.specs.BlockLaws.{Settles, tail}
+use Rattle.code.specs.BlockLaws.{Settles}
 
 -- the marker, or nothing before a first segment
 abbrev pub pre : Bool → ℕ → List ℕ → List ℕ
 pre true f m = marker f m ∷ marker f m ∷ []
 pre false f m = []
-
--- the segment and what follows it, taken apart
-pub segment-parts : (marked : Bool) (f : ℕ) (m r : List ℕ) → segment marked f m ++ r ≡ pre marked f m ++ (m ++ check m ∷ tail m r)
-unfolding segment block
-segment-parts true f m r = ap (λ (l : List ℕ). marker f m ∷ marker f m ∷ l) (append-assoc m (check m ∷ separator m ∷ separator m ∷ separator m ∷ syndromeOf m) r)
-segment-parts false f m r = append-assoc m (check m ∷ separator m ∷ separator m ∷ separator m ∷ syndromeOf m) r
 
 -- the message m is read from s, and it ends after o symbols
 pub record Reads (marked : Bool) (m ks s : List ℕ) (o : ℕ) : Type 0 where

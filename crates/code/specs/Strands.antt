@@ -3,9 +3,11 @@
 --   scan       step 10
 --   Outcome    what is found of a segment
 --   reading    the outcomes of all segments of a layout
+--   verdictsOf what is said of the segments
 --   markOf     the mark of a verdict
 --   sheetOf    the segment sheet of marks
 --   countOf    how many marks are n
+--   countsOf   how many are clean, corrected and lost
 use mathlib.Core.Bool.{Bool, true, false, cond}
 use mathlib.Core.List.{List, [], _∷_, _++_, map}
 use mathlib.Core.Option.{Option, some, none}
@@ -18,6 +20,8 @@ use Rattle.code.specs.Layout.{joined}
 use Rattle.code.specs.Reading.{clean, One, read, lost, readOne}
 use Rattle.code.specs.declared.Edit.the-variants.{None, Sub, Del, Ins}
 use Rattle.code.specs.declared.Verdict.{Verdict}
+use Rattle.code.specs.declared.Counted.{Counted}
+use Rattle.code.specs.declared.Counted.the-variants.{Counts}
 use Rattle.code.specs.declared.Verdict.the-variants.{Read, Lost, NoStart}
 
 -- the starts above P among those of a list
@@ -81,6 +85,10 @@ outcomes ks s = reading false 0 ks s s
 abbrev pub messagesOf : List Outcome → List ℕ
 messagesOf os = joined (map (λ (o : Outcome). o .message) os)
 
+-- what is said of the segments
+abbrev pub verdictsOf : List Outcome → List Verdict
+verdictsOf os = map (λ (o : Outcome). o .verdict) os
+
 -- 0 clean, 1 corrected, 2 lost
 abbrev pub markOf : Verdict → ℕ
 markOf (Read None) = 0
@@ -90,8 +98,9 @@ markOf (Read (Ins i x)) = 1
 markOf (Lost step) = 2
 markOf NoStart = 2
 
-abbrev pub marksOf : List Outcome → List ℕ
-marksOf os = map (λ (o : Outcome). markOf (o .verdict)) os
+-- the marks of verdicts
+abbrev pub marksOf : List Verdict → List ℕ
+marksOf vs = map markOf vs
 
 -- two bits a mark, most significant first; spare bits are zero
 abbrev pub sheetOf : List ℕ → List ℕ
@@ -101,3 +110,7 @@ sheetOf marks = bytes (marks ++ replicate ((4 - length marks % 4) % 4) 0)
 unfoldable pub countOf : ℕ → List ℕ → ℕ
 countOf n [] = 0
 countOf n (x ∷ marks) = cond (eqb x n) 1 0 + countOf n marks
+
+-- how many marks are clean, corrected and lost
+abbrev pub countsOf : List ℕ → Counted
+countsOf marks = Counts (countOf 0 marks) (countOf 1 marks) (countOf 2 marks)

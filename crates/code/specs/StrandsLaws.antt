@@ -15,10 +15,9 @@ use Rattle.code.specs.Layout.{joined}
 use Rattle.code.specs.Edits.{judged}
 use Rattle.code.specs.EditsLaws.{same-refl}
 use Rattle.code.specs.Reading.{Got, message, One, read, lost, got, endOf, clean, readOne, withMessage, withEdit}
-use Rattle.code.specs.ReadingLaws.{starts-split}
 use Rattle.code.specs.StepLaws.{pre, Reads, Final, reads-settled}
 use Rattle.code.specs.MessageEdits.{ending, message-edit}
-use Rattle.code.specs.Strands.{Outcome, firstStart, scan, unfound, withScan, withOne, reading, markOf, marksOf, countOf}
+use Rattle.code.specs.Strands.{Outcome, firstStart, scan, unfound, withScan, withOne, reading, verdictsOf, markOf, marksOf, countOf}
 use Rattle.code.specs.declared.Edit.{Edit}
 use Rattle.code.specs.declared.Edit.the-variants.{None, Sub, Del, Ins}
 use Rattle.code.specs.declared.Verdict.{Verdict}
@@ -95,7 +94,7 @@ mark-counts (Read (Ins i x)) = refl
 mark-counts (Lost step) = refl
 mark-counts NoStart = refl
 
-pub counts-add-up : (os : List Outcome) → countOf 0 (marksOf os) + (countOf 1 (marksOf os) + countOf 2 (marksOf os)) ≡ length os
+pub counts-add-up : (os : List Outcome) → countOf 0 (marksOf (verdictsOf os)) + (countOf 1 (marksOf (verdictsOf os)) + countOf 2 (marksOf (verdictsOf os))) ≡ length os
 unfolding countOf
 counts-add-up [] = refl
 counts-add-up (o ∷ os) = omega (arith, mark-counts (o .verdict), counts-add-up os)
@@ -110,11 +109,6 @@ start-clean k s raw (x ∷ os) o e = go (clean k (getD s (x - 1) 0) (drop x raw)
     go : (b : Bool) → clean k (getD s (x - 1) 0) (drop x raw) ≡ b → cond b (some x) (firstStart k s raw os) ≡ some o → (firstStart k s raw os ≡ some o → clean k (getD s (o - 1) 0) (drop o raw) ≡ true) → clean k (getD s (o - 1) 0) (drop o raw) ≡ true
     go true t q next = let i : x ≡ o = cc in rw (← i) t
     go false t q next = next q
-
--- a clean segment is a written one and what follows it
-pub clean-split : (k f : ℕ) (raw : List ℕ) → clean k f raw ≡ true → raw ≡ segment true f (take k (drop 2 raw)) ++ drop (length (segment true f (take k (drop 2 raw)))) raw
-unfolding clean
-clean-split k f raw e = starts-split (segment true f (take k (drop 2 raw))) raw e
 
 -- a segment, its marker or nothing before it, in the parts that an edit may hit
 segment-pre : (marked : Bool) (f : ℕ) (m : List ℕ) → segment marked f m ≡ pre marked f m ++ ((m ++ check m ∷ []) ++ ending m)

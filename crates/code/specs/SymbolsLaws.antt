@@ -144,9 +144,6 @@ byte-symbols x h =
     omega arith
 
 module _ (a b c d : ℕ) (ha : a < 4) (hb : b < 4) (hc : c < 4) (hd : d < 4) where
-  pub byte-below : byteOf a b c d < 256
-  byte-below = omega arith
-
   -- four symbols are those of their byte
   pub symbols-byte : symbolsOf (byteOf a b c d) ≡ a ∷ b ∷ c ∷ d ∷ []
   symbols-byte =

@@ -1,6 +1,7 @@
 -- Adding the counts of one reading to a tally.
---   full     a count would pass 4,294,967,295
---   tallied  the tally with one strand more, or refused whole
+--   mostCount   the largest count
+--   full        a count would pass it
+--   tallied     the tally with one strand more, or refused whole
 use mathlib.Core.Bool.{Bool, true, false, _||_}
 use Prim.Native.Nat.{ℕ, _+_}
 use lib.Dec.{ltb}
@@ -9,9 +10,13 @@ use Rattle.code.specs.declared.Tally.{Tally}
 use Rattle.code.specs.declared.Tallied.{Tallied}
 use Rattle.code.specs.declared.Tallied.the-variants.{Sum, Refused}
 
--- a count with n added would pass the largest number of 32 bits
+-- the largest count, that of 32 bits
+abbrev pub mostCount : ℕ
+mostCount = 4294967295
+
+-- a count with n added would pass it
 abbrev pub passes : ℕ → ℕ → Bool
-passes count n = ltb 4294967295 (count + n)
+passes count n = ltb mostCount (count + n)
 
 -- one of the four counts would
 abbrev pub full : Tally → ℕ → ℕ → ℕ → Bool

@@ -16,17 +16,17 @@ use Rattle.code.specs.declared.Refusal.the-variants.{TallyFull}
 use Rattle.code.specs.declared.Tally.{Tally}
 use Rattle.code.specs.declared.Tallied.the-variants.{Sum, Refused}
 use Rattle.code.specs.RefusalsLaws.{or-false}
-use Rattle.code.specs.Tallies.{passes, full, added, unlessFull, tallied}
+use Rattle.code.specs.Tallies.{mostCount, passes, full, added, unlessFull, tallied}
 
-pub passes-not : (count n : ℕ) → passes count n ≡ false → count + n ≤ 4294967295
-passes-not count n e = ltb-false 4294967295 (count + n) e
+pub passes-not : (count n : ℕ) → passes count n ≡ false → count + n ≤ mostCount
+passes-not count n e = ltb-false mostCount (count + n) e
 
 -- each of the four counts stays within 32 bits
 pub record Fits (t : Tally) (clean corrected lost : ℕ) : Type 0 where
-  pub strands-fit : t .strands + 1 ≤ 4294967295
-  pub clean-fit : t .clean + clean ≤ 4294967295
-  pub corrected-fit : t .corrected + corrected ≤ 4294967295
-  pub lost-fit : t .lost + lost ≤ 4294967295
+  pub strands-fit : t .strands + 1 ≤ mostCount
+  pub clean-fit : t .clean + clean ≤ mostCount
+  pub corrected-fit : t .corrected + corrected ≤ mostCount
+  pub lost-fit : t .lost + lost ≤ mostCount
 
 module _ (t : Tally) (clean corrected lost : ℕ) where
   pub full-not : full t clean corrected lost ≡ false → Fits t clean corrected lost

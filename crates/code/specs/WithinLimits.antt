@@ -1,9 +1,14 @@
--- A strand that keeps the one-edit conditions for an order within the limits is short enough to be read, and has no foreign letter.
+-- How many letters the strand of an order within the limits has, written and received.
+--   extent-most    equal segments within the limits
+--   equal-order    the segments of an order that is taken are such
+--   written-most   the written strand has at most 1,150 letters
+--   readable       one that keeps the one-edit conditions has at most 1,214, and no foreign letter
 use mathlib.Core.Path.{_≡_, sym, ap, _∙_}
 use mathlib.Core.Bool.{Bool, true, false}
 use mathlib.Core.List.{List, [], _∷_, map}
 use Prim.Native.Nat.{ℕ, suc, _+_, _-_, _*_, _/_, _≤_, _<_}
 use native.Mathlib.Nat.{mul-add, mul-le-mul-left}
+use native.Mathlib.Decide.{decLe}
 use native.Mathlib.Omega.{arith}
 use lib.ListN.{length, replicate, length-append, length-take, length-drop, length-set, length-replicate}
 use Rattle.code.specs.declared.Edit.{Edit}
@@ -18,8 +23,10 @@ use Rattle.code.specs.Segment.{segment, lastOf}
 use Rattle.code.specs.SegmentLaws.{length-segment, segment-below}
 use Rattle.code.specs.Layout.{sum, cut, extent, layoutOf}
 use Rattle.code.specs.LayoutLaws.{Each, none, both, cut-lengths, length-cut, cut-below, extent-equal, layout-sum}
-use Rattle.code.specs.Refusals.{mostLetters}
-use Rattle.code.specs.RefusalsLaws.{Ordered}
+use Rattle.code.specs.declared.Checked.the-variants.{Fine}
+use Rattle.code.specs.Refusals.{mostSegments, mostWritten, orderTest}
+use Rattle.code.specs.RefusalsLaws.{Ordered, order-fine}
+use Rattle.code.specs.Bounds.{Equal}
 use Rattle.code.specs.Edits.{applied, Fits}
 use Rattle.code.specs.BlockLaws.{below-set, below-leave, below-put}
 use Rattle.code.specs.Conditions.{received, Allowed, OneEdit}
@@ -51,17 +58,40 @@ received-below marked f (m ∷ ms) (e ∷ es) (both b bs) h =
     below-append (applied e (segment marked f m)) (received true (lastOf m) ms es) (applied-below e (segment marked f m) (h .0) (segment-below marked f m b))
     (received-below true (lastOf m) ms es bs (h .2))
 
--- the longest such strand has 1,406 letters
-extent-most : (k l : ℕ) → k ≤ 64 → 0 < l → l ≤ 64 → l * k ≤ 512 → extent false (replicate l k) + l ≤ 1406
-extent-most k l hk some hl hlk =
-    let t : width k ≤ 7 = width-least k .least 7 (omega arith) in
+-- the letters of l segments of k symbols with t syndrome symbols each, where k is at least `low`
+length-most : (low k l t : ℕ) → low ≤ k → width k ≤ t → 0 < l → l * low ≤ l * k × (extent false (replicate l k) + 2 ≤ l * k + l * t + l * 6)
+length-most low k l t h w some =
     let p : l * (k + width k + 6) ≡ l * k + l * width k + l * 6 = mul-add l (k + width k) 6 ∙ ap (λ (x : ℕ). x + l * 6) (mul-add l k (width k)) in
-    let q : l * width k ≤ l * 7 = mul-le-mul-left l t in
-    omega (arith, extent-equal l k some)
+    let q : l * width k ≤ l * t = mul-le-mul-left l w in
+    (mul-le-mul-left l h, omega (arith, extent-equal l k some))
+
+-- equal segments within the limits have at most `mostWritten` letters: 64 of 8 symbols have so many
+pub extent-most : (k l : ℕ) → Equal k l → extent false (replicate l k) ≤ mostWritten
+extent-most k l e = go (decLe k 8) (decLe k 16)
+  where
+    go : Dec (k ≤ 8) → Dec (k ≤ 16) → extent false (replicate l k) ≤ mostWritten
+    go (yes h) d = omega (arith, length-most 0 k l 4 (omega arith) (width-least k .least 4 (omega arith)) (e .some-segments))
+    go (no h) (yes g) = omega (arith, length-most 9 k l 5 (omega arith) (width-least k .least 5 (omega arith)) (e .some-segments))
+    go (no h) (no g) = omega (arith, length-most 17 k l 7 (omega arith) (width-least k .least 7 (omega arith)) (e .some-segments))
+
+-- the segments of an order that is taken are equal ones within the limits
+pub equal-order : (k b : ℕ) (other : Bool) → Ordered k b other → Equal k (4 * b / k)
+equal-order k b other o =
+    record {
+      least-length = o .least-length;
+      most-length = o .most-length;
+      some-segments = o .some-segments;
+      most-segments = o .most-segments;
+      most-symbols = omega (arith, o .whole, o .most-bytes);
+    }
+
+-- the strand of an order that is taken has at most `mostWritten` letters
+pub written-most : (k b : ℕ) (other : Bool) → orderTest k b other Fine ≡ Fine → extent false (layoutOf k b) ≤ mostWritten
+written-most k b other e = extent-most k (4 * b / k) (equal-order k b other (order-fine k b other e))
 
 -- what a strand that keeps the conditions is for k and B within the limits
 pub record Readable (s : List ℕ) : Type 0 where
-  pub short : length s ≤ mostLetters
+  pub short : length s ≤ mostWritten + mostSegments
   pub small : Below 4 s
   pub no-foreign : decoded (letters s) ≡ D.Whole
 
@@ -73,7 +103,7 @@ readable k b other bs s o n e =
     let w = received-length false 0 (cut ks x) (e .edits) in
     let c = cut-lengths ks x l in
     let r : length (received false 0 (cut ks x) (e .edits)) ≤ extent false ks + length ks = omega (arith, w, ap (extent false) c, length-cut ks x) in
-    let z = extent-most k (4 * b / k) (o .most-length) (o .some-segments) (o .most-segments) (omega (arith, o .whole, o .most-bytes)) in
+    let z = extent-most k (4 * b / k) (equal-order k b other o) in
     let q = length-replicate (4 * b / k) k in
     let d : Below 4 s = rw (e .stretches) at (received-below false 0 (cut ks x) (e .edits) (cut-below ks x (symbols-below bs)) (e .allowed)) in
     record { short = omega (arith, r, z, q, ap length (e .stretches)); small = d; no-foreign = decoded-letters s d }

@@ -1,8 +1,8 @@
--- What the writer answers and writes.
+-- What the writer tests, answers and writes.
 --   strandOf    the letters of the strand that carries some bytes
 --   writeTest   the tests 1, 2, 3 and 5
---   wroteOf     the writer's answer
---   bufferOf    the lent buffer afterwards
+--   overFront   a lent buffer with new bytes at its front
+--   writeCall   the writer's answer, and the lent buffer afterwards
 use mathlib.Core.Bool.{false, not}
 use mathlib.Core.List.{List, _++_}
 use Prim.Native.Nat.{ℕ}
@@ -10,12 +10,12 @@ use lib.Dec.{eqb, ltb}
 use lib.ListN.{length, drop}
 use Rattle.code.specs.declared.Refusal.the-variants.{ShortBuffer}
 use Rattle.code.specs.declared.Checked.{Checked}
-use Rattle.code.specs.declared.Checked.the-variants.{Fine, Refused}
+use Rattle.code.specs.declared.Checked.the-variants.{Fine}
 use Rattle.code.specs.declared.Wrote.{Wrote}
 use Rattle.code.specs.declared.Wrote.the-variants as W
 use Rattle.code.specs.Symbols.{letters, symbols}
 use Rattle.code.specs.Layout.{cut, strand, extent, layoutOf}
-use Rattle.code.specs.Refusals.{refuse, orderTest}
+use Rattle.code.specs.Refusals.{refuse, unlessRefused, orderTest}
 
 -- the letters of the strand that carries bytes on a layout
 unfoldable pub strandOf : List ℕ → List ℕ → List ℕ
@@ -25,12 +25,13 @@ strandOf ks bs = letters (strand (cut ks (symbols bs)))
 abbrev pub writeTest : ℕ → ℕ → List ℕ → ℕ → Checked
 writeTest k b bs n = orderTest k b (not (eqb (length bs) b)) (refuse (ltb n (extent false (layoutOf k b))) ShortBuffer Fine)
 
--- the number of letters, or the refusal
-abbrev pub wroteOf : Checked → ℕ → Wrote
-wroteOf Fine n = W.Letters n
-wroteOf (Refused r) n = W.Refused r
+-- new bytes at the front of a buffer, whose rest is unchanged
+abbrev pub overFront : List ℕ → List ℕ → List ℕ
+overFront new old = new ++ drop (length new) old
 
--- a buffer after a call: new bytes at its front, or unchanged where the call is refused
-abbrev pub bufferOf : Checked → List ℕ → List ℕ → List ℕ
-bufferOf Fine new old = new ++ drop (length new) old
-bufferOf (Refused r) new old = old
+-- what writing bytes bs for k and B to a buffer answers, and the buffer afterwards: unchanged where it is refused
+abbrev pub writeCall : ℕ → ℕ → List ℕ → List ℕ → Wrote × List ℕ
+writeCall k b bs out =
+    unlessRefused (writeTest k b bs (length out))
+    (W.Letters (extent false (layoutOf k b)), overFront (strandOf (layoutOf k b) bs) out)
+    (λ r. (W.Refused r, out))

@@ -1,7 +1,7 @@
 -- Laws of what the writer answers and writes.
 --   length-strand                            the length of the strand that carries bytes
 --   write-refused, write-short, write-fine   which refusal is told
---   ordered-length, ordered-sum              what holds of a message that is in order
+--   ordered-length                           a message that is in order has B bytes
 --   short-ordered                            the buffer is tested last
 use mathlib.Core.Path.{_≡_, refl, _∙_}
 use Prim.Native.Nat.{ℕ, _*_, _<_, _≤_}
@@ -18,7 +18,7 @@ use Rattle.code.specs.declared.Checked.the-variants.{Fine, Refused}
 use Rattle.code.specs.Symbols.{letterOf, symbols}
 use Rattle.code.specs.SymbolsLaws.{length-symbols}
 use Rattle.code.specs.Layout.{sum, cut, strand, extent, layoutOf}
-use Rattle.code.specs.LayoutLaws.{cut-lengths, length-written, layout-sum}
+use Rattle.code.specs.LayoutLaws.{length-strand-cut}
 use Rattle.code.specs.Refusals.{refuse, leastLength, mostLength, mostBytes, outside, uneven, orderTest}
 use Rattle.code.specs.RefusalsLaws.{order-fine, order-then, order-refused}
 use Rattle.code.specs.Writing.{strandOf, writeTest}
@@ -26,9 +26,7 @@ use Rattle.code.specs.Writing.{strandOf, writeTest}
 -- the strand that carries bytes has the layout's length
 pub length-strand : (ks bs : List ℕ) → sum ks ≡ 4 * length bs → length (strandOf ks bs) ≡ extent false ks
 unfolding strandOf
-length-strand ks bs e =
-    let n = length-symbols bs in
-    length-map (strand (cut ks (symbols bs))) letterOf ∙ length-written false 0 (cut ks (symbols bs)) ∙ rw (cut-lengths ks (symbols bs) (omega arith))
+length-strand ks bs e = length-map (strand (cut ks (symbols bs))) letterOf ∙ length-strand-cut ks (symbols bs) (omega (arith, length-symbols bs))
 
 module _ (k b : ℕ) (bs : List ℕ) (n : ℕ) where
   -- the tests 1, 2 and 3 of a writing
@@ -49,10 +47,6 @@ module _ (k b : ℕ) (bs : List ℕ) (n : ℕ) where
   -- the message has B bytes
   pub ordered-length : ordered ≡ Fine → length bs ≡ b
   ordered-length e = eqb-true (length bs) b (not-false _ (order-fine k b (not (eqb (length bs) b)) e .same-size))
-
-  -- its symbols are those of the layout
-  pub ordered-sum : ordered ≡ Fine → sum (layoutOf k b) ≡ 4 * length bs
-  ordered-sum e = let h = ordered-length e in layout-sum k b (order-fine k b (not (eqb (length bs) b)) e .multiple) ∙ omega arith
 
 -- a short buffer is told only where k, B and the message are in order
 pub short-ordered : (k b : ℕ) (bs : List ℕ) (n : ℕ) → writeTest k b bs n ≡ Refused ShortBuffer → ordered k b bs n ≡ Fine

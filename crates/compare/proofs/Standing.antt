@@ -10,18 +10,10 @@ use lib.Dec.{eqb}
 use lib.ListN.{length, getD, take, drop, length-drop, drop-of-length-le}
 use lib.Seq.{drop-cons, drop-drop, take-append-le}
 use Rattle.code.specs.Reading.{starts, twoEqual, threeEqual}
-use Rattle.code.specs.ReadingLaws.{starts-self, starts-is, starts-split}
+use Rattle.code.specs.ReadingLaws.{and-true, and-false, starts-self, starts-is, starts-split}
 use Rattle.code.specs.Symbols.{Below}
 use Rattle.compare.specs.Words.{wordOf}
 use Rattle.compare.specs.WordsLaws.{word-place}
-
-and-true : (a : Bool) → (a && true) ≡ a
-and-true true = refl
-and-true false = refl
-
-and-false : (a b : Bool) → b ≡ false → (a && b) ≡ false
-and-false true b e = e
-and-false false b e = refl
 
 -- a list that is too short passes no test
 
@@ -42,7 +34,7 @@ starts-short : (b l : List ℕ) → length l < length b → starts b l ≡ false
 unfolding starts
 starts-short [] l h = absurd (omega arith)
 starts-short (x ∷ b) [] h = refl
-starts-short (x ∷ b) (y ∷ l) h = and-false (eqb x y) (starts b l) (starts-short b l (omega arith))
+starts-short (x ∷ b) (y ∷ l) h = rw (starts-short b l (omega arith)) (and-false (eqb x y))
 
 -- a block goes on behind a front that both lists have, and stands nowhere else
 

@@ -4,6 +4,7 @@ ghost use mathlib.Core.Path.{_≡_};
 ghost use mathlib.Core.List.{[], _∷_};
 ghost use Prim.Native.Nat.{_-_, _<_};
 ghost use lib.ListN.{length, drop};
+ghost use Rattle.code.specs.Bounds.{reach};
 ghost use Rattle.code.specs.Reading.{starts, twoEqual, threeEqual};
 
 // The symbol x stands at the place.
@@ -18,7 +19,7 @@ pub fn is_at(x: u8, s: &[u8], at: usize) -> bool
 
 // Two equal symbols stand at the place.
 pub fn two_equal(s: &[u8], at: usize) -> bool
-    requires { ⌜ at < 65536 ⌝ }
+    requires { ⌜ at < reach ⌝ }
     ensures { λ r. ⌜ r ≡ twoEqual (drop at (now (s .entry))) ⌝ }
 {
     if at + 1 < s.len() {
@@ -29,7 +30,7 @@ pub fn two_equal(s: &[u8], at: usize) -> bool
 
 // Three equal symbols stand at the place.
 pub fn three_equal(s: &[u8], at: usize) -> bool
-    requires { ⌜ at < 65536 ⌝ }
+    requires { ⌜ at < reach ⌝ }
     ensures { λ r. ⌜ r ≡ threeEqual (drop at (now (s .entry))) ⌝ }
 {
     if s.len() <= at + 2 {
@@ -53,7 +54,7 @@ fn left_from(s: &[u8], at: usize) -> usize
 
 // The block stands at the place.
 pub fn stands_at(block: &[u8], s: &[u8], at: usize) -> bool
-    requires { ⌜ (at < 65536) × (length (now block) < 65536) ⌝ }
+    requires { ⌜ (at < reach) × (length (now block) < reach) ⌝ }
     ensures { λ r. ⌜ r ≡ starts (now (block .entry)) (drop at (now (s .entry))) ⌝ }
 {
     if left_from(s, at) < block.len() {

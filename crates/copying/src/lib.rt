@@ -43,3 +43,12 @@ pub fn put(block: &[u8], out: &mut [u8], at: usize)
         i += 1;
     }
 }
+
+// The symbols from a place on, in `out`.
+pub fn copy(s: &[u8], from: usize, out: &mut [u8])
+    requires { ⌜ from + length (now out) ≤ length (now s) ⌝ }
+    ensures { λ _. ⌜ now (out .exit) ≡ take (length (now (out .entry))) (drop from (now (s .entry))) ⌝ }
+{
+    let to = from + out.len();
+    put(&s[from..to], out, 0);
+}

@@ -9,22 +9,28 @@ use borrow.Author.Tests.{ne-eqb}
 use lib.ListN.{length}
 use Rattle.code.specs.declared.Refusal.the-variants.{Label}
 use Rattle.code.specs.declared.Order.the-variants as O
+use Rattle.code.specs.Writing.{overFront}
 use Rattle.code.specs.Label.{orderOf}
+use Rattle.hex.specs.declared.Hex.{Hex}
 use Rattle.hex.specs.declared.Hex.the-variants.{Bytes, Bad}
-use Rattle.hex.specs.Digits.{allDigits, hexBytes, decodable, hexOf, frontOf}
+use Rattle.hex.specs.Digits.{allDigits, hexBytes, decodable, hexCall, decodeCall}
 use Rattle.hex.specs.DigitsLaws.{length-hex-bytes}
 use Rattle.desk.specs.LabelLine.{orderLine}
 
 pub other-length : (line : List ℕ) → (length line ≡ 8 → ⊥) → O.Refused Label ≡ orderLine line
 other-length line h = rw (ne-eqb (length line) 8 h)
 
-is-bad : (b : Bool) (n : ℕ) → hexOf b n ≡ Bad → b ≡ false
-is-bad true n e = let z : _≡_ {A = ℕ} 0 1 = cc in absurd (omega arith)
-is-bad false n e = refl
+-- the answer of two calls that agree
+answer-is : {x y : Hex × List ℕ} → x ≡ y → x .0 ≡ y .0
+answer-is e = ap (λ (p : Hex × List ℕ). p .0) e
 
-is-good : (b : Bool) (n m : ℕ) → hexOf b n ≡ Bytes m → b ≡ true
-is-good true n m e = refl
-is-good false n m e = let z : _≡_ {A = ℕ} 0 1 = cc in absurd (omega arith)
+is-bad : (b : Bool) (new old out : List ℕ) → (Bad, out) ≡ hexCall b new old → b ≡ false
+is-bad true new old out e = let f = answer-is e in let z : _≡_ {A = ℕ} 0 1 = cc in absurd (omega arith)
+is-bad false new old out e = refl
+
+is-good : (b : Bool) (new old out : List ℕ) (n : ℕ) → (Bytes n, out) ≡ hexCall b new old → (b ≡ true) × (out ≡ overFront new old)
+is-good true new old out n e = (refl, ap (λ (p : Hex × List ℕ). p .1) e)
+is-good false new old out n e = let f = answer-is e in let z : _≡_ {A = ℕ} 0 1 = cc in absurd (omega arith)
 
 module _ (line : List ℕ) (e : length line ≡ 8) where
   -- eight digits are decoded into four bytes
@@ -35,12 +41,16 @@ module _ (line : List ℕ) (e : length line ≡ 8) where
       go true p = p ∙ (sym (rw (e, p)) ∙ d)
       go false p = p ∙ (sym (rw (e, p)) ∙ d)
 
-  pub no-digits : (n : ℕ) → hexOf (decodable line 4) n ≡ Bad → O.Refused Label ≡ orderLine line
-  no-digits n h = rw (e, digits-alone false (is-bad (decodable line 4) n h))
+  -- a buffer for four bytes
+  abbrev zeros : List ℕ
+  zeros = 0 ∷ 0 ∷ 0 ∷ 0 ∷ []
 
-  pub label-line : (n m : ℕ) (bytes : List ℕ) → hexOf (decodable line 4) n ≡ Bytes m → bytes ≡ frontOf (decodable line 4) (hexBytes line) (0 ∷ 0 ∷ 0 ∷ 0 ∷ []) → orderOf bytes ≡ orderLine line
-  label-line n m bytes h p =
-      let good = is-good (decodable line 4) n m h in
+  pub no-digits : (bytes : List ℕ) → (Bad, bytes) ≡ decodeCall line zeros → O.Refused Label ≡ orderLine line
+  no-digits bytes h = rw (e, digits-alone false (is-bad (decodable line 4) (hexBytes line) zeros bytes h))
+
+  pub label-line : (n : ℕ) (bytes : List ℕ) → (Bytes n, bytes) ≡ decodeCall line zeros → orderOf bytes ≡ orderLine line
+  label-line n bytes h =
+      let p = is-good (decodable line 4) (hexBytes line) zeros bytes n h in
       let size : length (hexBytes line) ≡ 4 = length-hex-bytes line ∙ ap (λ (x : ℕ). x / 2) e in
-      let same : bytes ≡ hexBytes line = p ∙ rw (good, size) (append-nil (hexBytes line)) in
-      rw (e, digits-alone true good) (ap orderOf same)
+      let same : bytes ≡ hexBytes line = p .1 ∙ rw size (append-nil (hexBytes line)) in
+      rw (e, digits-alone true (p .0)) (ap orderOf same)

@@ -29,7 +29,7 @@ pub fn number(n: u32) {
 // The line for a refusal.
 pub fn refuse(r: Refusal) {
     word(b"refused ");
-    number(dnalm::refusal_number(r) as u32);
+    number(refusal::number_of(r) as u32);
     word(b"\n");
 }
 
@@ -44,5 +44,5 @@ pub fn order_of(line: &[u8]) -> Order
     let Hex::Bytes(_) = hex::decode(line, &mut label) else {
         return Order::Refused(Refusal::Label);
     };
-    dnalm::read_label(&label)
+    label::read(&label)
 }

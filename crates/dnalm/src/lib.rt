@@ -1,120 +1,201 @@
-// The public calls, each with its whole promise. No call asks anything of its caller.
+// The public calls under C names: numbers, structs of numbers and slices alone cross the border. No call asks anything of its caller.
+// In an answer `refusal` is 0 where the call is taken and else the refusal's number; `place` is the first foreign letter's, from 0,
+// where `refusal` is 6, and else 0. The other numbers of a refused call are 0; those of a tally are the old ones.
 ghost use mathlib.Core.Path.{_≡_};
-ghost use mathlib.Core.Bool.{false};
-ghost use Prim.Native.Nat.{_-_};
-ghost use lib.ListN.{length};
-ghost use Rattle.code.specs.Layout.{extent, layoutOf};
-ghost use Rattle.code.specs.Refusals.{numberOf, placeOf, testNumber, testPlace};
-ghost use Rattle.code.specs.Writing.{strandOf, writeTest, wroteOf, bufferOf};
-ghost use Rattle.code.specs.Strands.{marksOf};
-ghost use Rattle.code.specs.ReadCall.{readTest, pieceTest, outcomesOf, countedOf, bytesOf, sheetFor, startOf, pieceLength, pieceOf, partOf, locatedOf};
-ghost use Rattle.code.specs.ReadDemand.{Demand-3-call};
-ghost use Rattle.code.specs.Label.{labelBytes, labelTest, orderOf};
+ghost use Rattle.code.specs.Refusals.{testNumber};
+ghost use Rattle.code.specs.Writing.{writeCall};
+ghost use Rattle.code.specs.ReadCall.{readCall, locateCall};
+ghost use Rattle.code.specs.Label.{labelCall, orderOf};
 ghost use Rattle.code.specs.Tallies.{tallied};
+ghost use Rattle.dnalm.specs.Answers.{answered, fromWrote, fromCounted, fromLocated, fromOrder, asTally, fromTallied};
+ghost use Rattle.dnalm.specs.Demand3.{Demand-3-counts};
 use code::Checked;
 use code::Counted;
 use code::Located;
-use code::Order;
-use code::Refusal;
-use code::Tallied;
-use code::Tally;
 use code::Wrote;
 
-// Writes a strand: `message`, of B = `b` bytes, in segments of k = `k` symbols, as the letters A, T, C and G at the front of
-// `out`. Answers the number of letters, l × (k + t + 6) − 2 for l segments with t syndrome symbols each.
-// Turned down, in this order: 1 k is not 2 to 64; 2 B is not 1 to 128, or `message` has not B bytes; 3 4B is not a multiple of k,
-// or makes more than 64 segments; 5 `out` has fewer bytes than the strand has letters.
-// The bytes of `out` behind the strand are untouched; a refusal leaves all of `out` as it was.
-pub fn write(k: u32, b: u32, message: &[u8], out: &mut [u8]) -> Wrote
-    ensures { λ r. ⌜ r ≡ wroteOf (writeTest k b (now (message .entry)) (length (now (out .entry)))) (extent false (layoutOf k b)) ⌝ }
-    ensures { λ _. ⌜ now (out .exit) ≡ bufferOf (writeTest k b (now (message .entry)) (length (now (out .entry)))) (strandOf (layoutOf k b) (now (message .entry))) (now (out .entry)) ⌝ }
-{
-    strand::write(k, b, message, out)
+// What a writing answers: how many letters were written.
+#[repr(C)]
+pub struct Written {
+    pub refusal: u32,
+    pub place: usize,
+    pub letters: usize,
 }
 
-// Reads a strand: the received `letters`, written for k = `k` and B = `b`. The B bytes of the message go to the front of `message`,
-// zeros where a segment is lost; the sheet goes to the front of `sheet`, two bits for each of the l segments, the first in the
-// highest bits: 0 clean, 1 corrected, 2 lost. Answers how many segments are clean, corrected and lost.
-// Turned down, in this order: 1 k is not 2 to 64; 2 B is not 1 to 128; 3 4B is not a multiple of k, or makes more than 64
-// segments; 4 there are more than 2,048 letters; 5 `message` has fewer than B bytes, or `sheet` fewer than one for each four
-// segments; 6 a byte is none of A, T, C and G, with the first such place.
-// The bytes behind the message and behind the sheet are untouched; a refusal leaves both buffers as they were.
-// The last clause is demand 3: letters with at most one edit in each segment give the message that was written, and nothing lost.
-pub fn read(k: u32, b: u32, letters: &[u8], message: &mut [u8], sheet: &mut [u8]) -> Counted
-    ensures { λ r. ⌜ r ≡ countedOf (readTest k b (now (letters .entry)) (length (now (message .entry))) (length (now (sheet .entry)))) (marksOf (outcomesOf k b (now (letters .entry)))) ⌝ }
-    ensures { λ _. ⌜ now (message .exit) ≡ bufferOf (readTest k b (now (letters .entry)) (length (now (message .entry))) (length (now (sheet .entry)))) (bytesOf k b (now (letters .entry))) (now (message .entry)) ⌝ }
-    ensures { λ _. ⌜ now (sheet .exit) ≡ bufferOf (readTest k b (now (letters .entry)) (length (now (message .entry))) (length (now (sheet .entry)))) (sheetFor k b (now (letters .entry))) (now (sheet .entry)) ⌝ }
-    ensures { λ r. ⌜ Demand-3-call k b (now (letters .entry)) r (now (message .entry)) (now (message .exit)) (now (sheet .entry)) (now (sheet .exit)) ⌝ }
-{
-    reader::read(k, b, letters, message, sheet)
+// What a reading answers: how many segments are clean, corrected and lost.
+#[repr(C)]
+pub struct Counts {
+    pub refusal: u32,
+    pub place: usize,
+    pub clean: u32,
+    pub corrected: u32,
+    pub lost: u32,
 }
 
-// Hands back the piece of a segment, from 1: its stretch of the caller's own `letters`, received for k and B; `number` and
-// `place` become 0.
-// Turned down, in this order: 1 to 4 and 6 as for a reading; 9 there is no such segment. Then the part is empty, and `number` and
-// `place` become those of the refusal.
-pub fn piece<'a>(
+// What a piece call answers: where the piece starts in the letters, and how many letters it has.
+#[repr(C)]
+pub struct Piece {
+    pub refusal: u32,
+    pub place: usize,
+    pub start: usize,
+    pub length: usize,
+}
+
+// What reading a label answers: k and B.
+#[repr(C)]
+pub struct Order {
+    pub refusal: u32,
+    pub k: u32,
+    pub b: u32,
+}
+
+// How many strands were read, and their segments by mark.
+#[repr(C)]
+pub struct Tally {
+    pub strands: u32,
+    pub clean: u32,
+    pub corrected: u32,
+    pub lost: u32,
+}
+
+// What adding to a tally answers: the four counts afterwards.
+#[repr(C)]
+pub struct Tallied {
+    pub refusal: u32,
+    pub strands: u32,
+    pub clean: u32,
+    pub corrected: u32,
+    pub lost: u32,
+}
+
+// Writes a strand to the front of `out`, as `strand::write` does.
+#[no_mangle]
+pub extern "C" fn dnalm_write(k: u32, b: u32, message: &[u8], out: &mut [u8]) -> Written
+    ensures { λ r. ⌜ (r, now (out .exit)) ≡ answered fromWrote (writeCall k b (now (message .entry)) (now (out .entry))) ⌝ }
+{
+    let wrote = strand::write(k, b, message, out);
+    match wrote {
+        Wrote::Letters(n) => Written {
+            refusal: 0,
+            place: 0,
+            letters: n,
+        },
+        Wrote::Refused(r) => Written {
+            refusal: refusal::number_of(r) as u32,
+            place: refusal::place_of(r),
+            letters: 0,
+        },
+    }
+}
+
+// Reads a strand: the message to the front of `message` and the marks to the front of `sheet`, as `reader::read` does.
+// The second clause is demand 3: letters with at most one edit in each segment give the message that was written, and nothing lost.
+#[no_mangle]
+pub extern "C" fn dnalm_read(
     k: u32,
     b: u32,
-    letters: &'a [u8],
-    segment: u32,
-    number: &mut u8,
-    place: &mut usize,
-) -> &'a [u8]
-    ensures { λ r. ⌜ now r ≡ partOf (pieceTest k b (now (letters .entry)) segment) (pieceOf (outcomesOf k b (now (letters .entry))) (now (letters .entry)) segment) ⌝ }
-    ensures { λ _. ⌜ now (number .exit) ≡ testNumber (pieceTest k b (now (letters .entry)) segment) ⌝ }
-    ensures { λ _. ⌜ now (place .exit) ≡ testPlace (pieceTest k b (now (letters .entry)) segment) ⌝ }
+    letters: &[u8],
+    message: &mut [u8],
+    sheet: &mut [u8],
+) -> Counts
+    ensures { λ r. ⌜ (r, (now (message .exit), now (sheet .exit))) ≡ answered fromCounted (readCall k b (now (letters .entry)) (now (message .entry)) (now (sheet .entry))) ⌝ }
+    ensures { λ r. ⌜ Demand-3-counts k b (now (letters .entry)) (now (message .entry)) (now (sheet .entry)) (r, (now (message .exit), now (sheet .exit))) ⌝ }
 {
-    pieces::piece(k, b, letters, segment, number, place)
+    let counted = reader::read(k, b, letters, message, sheet);
+    match counted {
+        Counted::Counts(clean, corrected, lost) => Counts {
+            refusal: 0,
+            place: 0,
+            clean,
+            corrected,
+            lost,
+        },
+        Counted::Refused(r) => Counts {
+            refusal: refusal::number_of(r) as u32,
+            place: refusal::place_of(r),
+            clean: 0,
+            corrected: 0,
+            lost: 0,
+        },
+    }
 }
 
-// Answers where that piece starts and where it ends, or the refusal; for callers that take places and not a part.
-pub fn locate(k: u32, b: u32, letters: &[u8], segment: u32) -> Located
-    ensures { λ r. ⌜ r ≡ locatedOf (pieceTest k b (now (letters .entry)) segment) (startOf (outcomesOf k b (now (letters .entry))) (segment - 1)) (pieceLength (outcomesOf k b (now (letters .entry))) (segment - 1)) ⌝ }
+// Answers which stretch of `letters` is the piece of a segment, from 1, as `pieces::locate` does.
+#[no_mangle]
+pub extern "C" fn dnalm_piece(k: u32, b: u32, letters: &[u8], segment: u32) -> Piece
+    ensures { λ r. ⌜ r ≡ fromLocated (locateCall k b (now (letters .entry)) segment) ⌝ }
 {
-    pieces::locate(k, b, letters, segment)
+    let located = pieces::locate(k, b, letters, segment);
+    match located {
+        Located::At(from, to) => Piece {
+            refusal: 0,
+            place: 0,
+            start: from,
+            length: to - from,
+        },
+        Located::Refused(r) => Piece {
+            refusal: refusal::number_of(r) as u32,
+            place: refusal::place_of(r),
+            start: 0,
+            length: 0,
+        },
+    }
 }
 
-// Writes the label of k and B: four bytes, most significant first, at the front of `out`: edition 1 in 4 bits, k in 7, B in 8, and
-// 13 zero bits.
-// Turned down, in this order: 1 k is not 2 to 64; 2 B is not 1 to 128; 3 4B is not a multiple of k, or makes more than 64
-// segments; 5 `out` has fewer than four bytes.
-// The bytes of `out` behind the label are untouched; a refusal leaves all of `out` as it was.
-pub fn write_label(k: u32, b: u32, out: &mut [u8]) -> Checked
-    ensures { λ r. ⌜ r ≡ labelTest k b (length (now (out .entry))) ⌝ }
-    ensures { λ _. ⌜ now (out .exit) ≡ bufferOf (labelTest k b (length (now (out .entry)))) (labelBytes k b) (now (out .entry)) ⌝ }
+// Writes the label of k and B to the front of `out`, as `label::write` does. Answers the refusal's number, or 0.
+#[no_mangle]
+pub extern "C" fn dnalm_write_label(k: u32, b: u32, out: &mut [u8]) -> u32
+    ensures { λ r. ⌜ (r, now (out .exit)) ≡ answered testNumber (labelCall k b (now (out .entry))) ⌝ }
 {
-    label::write(k, b, out)
+    let tested = label::write(k, b, out);
+    match tested {
+        Checked::Fine => 0,
+        Checked::Refused(r) => refusal::number_of(r) as u32,
+    }
 }
 
-// Reads a label and answers its k and B. Bytes behind the first four are not read.
-// Turned down, in this order: 5 `bytes` has fewer than four bytes; 8 the edition is not 1, or a spare bit is set; 1 k is not 2 to
-// 64; 2 B is not 1 to 128; 3 4B is not a multiple of k, or makes more than 64 segments.
-// It writes to nothing.
-pub fn read_label(bytes: &[u8]) -> Order
-    ensures { λ r. ⌜ r ≡ orderOf (now (bytes .entry)) ⌝ }
+// Reads a label and answers its k and B, as `label::read` does.
+#[no_mangle]
+pub extern "C" fn dnalm_read_label(bytes: &[u8]) -> Order
+    ensures { λ r. ⌜ r ≡ fromOrder (orderOf (now (bytes .entry))) ⌝ }
 {
-    label::read(bytes)
+    let order = label::read(bytes);
+    match order {
+        code::Order::Is(k, b) => Order { refusal: 0, k, b },
+        code::Order::Refused(r) => Order {
+            refusal: refusal::number_of(r) as u32,
+            k: 0,
+            b: 0,
+        },
+    }
 }
 
-// Adds the three counts of one reading to a tally, and one strand, and answers the new tally.
-// Turned down: 7 one of the tally's four counts would pass 4,294,967,295; then none of them is changed.
-pub fn add_to_tally(t: Tally, clean: u32, corrected: u32, lost: u32) -> Tallied
-    ensures { λ r. ⌜ r ≡ tallied t clean corrected lost ⌝ }
+// Adds the counts of one reading and one strand to a tally, as `tally::add` does. A refusal answers the old counts.
+#[no_mangle]
+pub extern "C" fn dnalm_add_to_tally(t: Tally, clean: u32, corrected: u32, lost: u32) -> Tallied
+    ensures { λ r. ⌜ r ≡ fromTallied t (tallied (asTally t) clean corrected lost) ⌝ }
 {
-    tally::add(t, clean, corrected, lost)
-}
-
-// The number of a refusal, 1 to 9.
-pub fn refusal_number(r: Refusal) -> u8
-    ensures { λ n. ⌜ n ≡ numberOf r ⌝ }
-{
-    refusal::number_of(r)
-}
-
-// The place that a refusal names: for 6 that of the first foreign letter, from 0; for any other 0.
-pub fn refusal_place(r: Refusal) -> usize
-    ensures { λ n. ⌜ n ≡ placeOf r ⌝ }
-{
-    refusal::place_of(r)
+    let old = code::Tally {
+        strands: t.strands,
+        clean: t.clean,
+        corrected: t.corrected,
+        lost: t.lost,
+    };
+    let added = tally::add(old, clean, corrected, lost);
+    match added {
+        code::Tallied::Sum(u) => Tallied {
+            refusal: 0,
+            strands: u.strands,
+            clean: u.clean,
+            corrected: u.corrected,
+            lost: u.lost,
+        },
+        code::Tallied::Refused(r) => Tallied {
+            refusal: refusal::number_of(r) as u32,
+            strands: old.strands,
+            clean: old.clean,
+            corrected: old.corrected,
+            lost: old.lost,
+        },
+    }
 }

@@ -1,1 +1,1 @@
-pub mod Followers
+pub mod Ends

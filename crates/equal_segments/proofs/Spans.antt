@@ -8,7 +8,8 @@ use native.Mathlib.Omega.{arith}
 use lib.ListN.{length, getD}
 use Rattle.code.specs.Layout.{sum}
 use Rattle.code.specs.Strands.{Outcome}
-use Rattle.code.specs.ReadCall.{startOf, pieceLength}
+use Rattle.code.specs.declared.Located.the-variants.{At}
+use Rattle.code.specs.ReadCall.{startOf, pieceLength, locatedAs}
 use Rattle.reading.specs.Walks.{endsFrom}
 
 -- where the pieces of outcomes end, the first of which starts at p
@@ -30,14 +31,15 @@ module _ (x r : List ℕ) (os : List Outcome) (e : x ≡ endsFrom 0 os) where
   end-of : (i : ℕ) → i < length os → getD (x ++ r) i 0 ≡ startOf os i + pieceLength os i
   end-of i h = ap (λ (w : List ℕ). getD (w ++ r) i 0) e ∙ omega (arith, ends-at 0 os r i h)
 
-  pub first-span : (i : ℕ) → i ≡ 0 → i < length os → (0 ≡ startOf os i) × (getD (x ++ r) i 0 ≡ 0 + pieceLength os i)
+  pub first-span : (i : ℕ) → i ≡ 0 → i < length os → At 0 (getD (x ++ r) i 0) ≡ locatedAs os i
   unfolding sum
-  first-span zero z h = (refl, end-of 0 h)
+  first-span zero z h = ap (At 0) (end-of 0 h)
   first-span (suc i) z h = absurd (omega arith)
 
-  pub later-span : (i : ℕ) → (i ≡ 0 → ⊥) → i < length os → (getD (x ++ r) (i - 1) 0 ≡ startOf os i) × (getD (x ++ r) i 0 ≡ getD (x ++ r) (i - 1) 0 + pieceLength os i)
+  pub later-span : (i : ℕ) → (i ≡ 0 → ⊥) → i < length os → At (getD (x ++ r) (i - 1) 0) (getD (x ++ r) i 0) ≡ locatedAs os i
   later-span zero z h = absurd (z refl)
   later-span (suc i) z h =
       let s : getD (x ++ r) i 0 ≡ startOf os (suc i) = end-of i (omega arith) ∙ sym (start-behind os i) in
+      let t = end-of (suc i) h in
       let n : suc i - 1 ≡ i = omega arith in
-      rw n (s, end-of (suc i) h ∙ ap (λ (m : ℕ). m + pieceLength os (suc i)) (sym s))
+      rw n (λ j. At (s j) (t j))

@@ -4,13 +4,15 @@
 --   hexDigits   the upper-case digits of bytes
 --   decodable   digits that can be put as bytes into a buffer
 --   encodable   bytes that can be put as digits into a buffer
---   hexOf       the answer to a test
---   frontOf     the lent buffer afterwards
+--   hexCall     an answer, and the lent buffer afterwards
+--   decodeCall  that of a decoding
+--   encodeCall  that of an encoding
 use mathlib.Core.Bool.{Bool, true, false, _&&_}
-use mathlib.Core.List.{List, [], _∷_, _++_}
+use mathlib.Core.List.{List, [], _∷_}
 use Prim.Native.Nat.{ℕ, _+_, _*_, _/_, _%_}
 use lib.Dec.{eqb, ltb, leb}
-use lib.ListN.{length, drop}
+use lib.ListN.{length}
+use Rattle.code.specs.Writing.{overFront}
 use Rattle.digit.specs.Digit.{noDigit, valueOf, digitOf}
 use Rattle.hex.specs.declared.Hex.{Hex}
 use Rattle.hex.specs.declared.Hex.the-variants.{Bytes, Bad}
@@ -39,12 +41,15 @@ decodable cs n = eqb (length cs % 2) 0 && allDigits cs && leb (length cs / 2) n
 abbrev pub encodable : List ℕ → ℕ → Bool
 encodable bs n = leb (2 * length bs) n
 
--- how many bytes were written, or that none were
-abbrev pub hexOf : Bool → ℕ → Hex
-hexOf true n = Bytes n
-hexOf false n = Bad
+-- the answer and the lent buffer afterwards: new bytes at its front, and their number; or nothing written
+abbrev pub hexCall : Bool → List ℕ → List ℕ → Hex × List ℕ
+hexCall true new old = (Bytes (length new), overFront new old)
+hexCall false new old = (Bad, old)
 
--- a buffer after a call: new bytes at its front, or unchanged
-abbrev pub frontOf : Bool → List ℕ → List ℕ → List ℕ
-frontOf true new old = new ++ drop (length new) old
-frontOf false new old = old
+-- digits decoded into a buffer
+abbrev pub decodeCall : List ℕ → List ℕ → Hex × List ℕ
+decodeCall cs out = hexCall (decodable cs (length out)) (hexBytes cs) out
+
+-- bytes encoded into a buffer
+abbrev pub encodeCall : List ℕ → List ℕ → Hex × List ℕ
+encodeCall bs out = hexCall (encodable bs (length out)) (hexDigits bs) out

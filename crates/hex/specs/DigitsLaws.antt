@@ -1,7 +1,7 @@
 -- Laws of hexadecimal digits, in the order of their definitions.
 use mathlib.Core.Path.{_≡_, refl}
 use mathlib.Core.Bool.{Bool, true, false, _&&_}
-use mathlib.Core.List.{List, [], _∷_, _++_}
+use mathlib.Core.List.{List, [], _∷_}
 use Prim.Native.Nat.{ℕ, zero, suc, _+_, _*_, _/_, _%_, _<_, _≤_}
 use native.Mathlib.Omega.{arith}
 use native.Mathlib.Numerals.{add-one}
@@ -10,10 +10,11 @@ use lib.Dec.{ltb}
 use lib.ListN.{length, getD, drop, drop-of-length-le}
 use lib.Seq.{drop-cons, drop-nil}
 use Rattle.code.specs.Symbols.{Below}
+use Rattle.code.specs.Writing.{overFront}
 use Rattle.digit.specs.Digit.{noDigit, valueOf, digitOf}
 use Rattle.digit.specs.DigitLaws.{value-digit}
 use Rattle.hex.specs.declared.Hex.the-variants.{Bytes}
-use Rattle.hex.specs.Digits.{allDigits, hexBytes, hexDigits, decodable, hexOf, frontOf}
+use Rattle.hex.specs.Digits.{allDigits, hexBytes, hexDigits, decodable, decodeCall}
 
 -- Digits
 
@@ -120,10 +121,5 @@ decodable-digits bs n h room =
     rw (eq-eqb (length (hexDigits bs) % 2) 0 (omega arith), all-digits-hex bs h) (le-leb (length (hexDigits bs) / 2) n (omega arith))
 
 -- the answer and the buffer of such a decoding
-pub answer-digits : (bs : List ℕ) (n : ℕ) → Below 256 bs → length bs ≤ n → hexOf (decodable (hexDigits bs) n) (length (hexDigits bs) / 2) ≡ Bytes (length bs)
-answer-digits bs n h room =
-    let l : length (hexDigits bs) / 2 ≡ length bs = omega (arith, length-hex-digits bs) in
-    rw (decodable-digits bs n h room, l)
-
-pub front-digits : (bs d : List ℕ) → Below 256 bs → length bs ≤ length d → frontOf (decodable (hexDigits bs) (length d)) (hexBytes (hexDigits bs)) d ≡ bs ++ drop (length bs) d
-front-digits bs d h room = rw (decodable-digits bs (length d) h room, hex-bytes-digits bs h)
+pub decode-digits : (bs d : List ℕ) → Below 256 bs → length bs ≤ length d → decodeCall (hexDigits bs) d ≡ (Bytes (length bs), overFront bs d)
+decode-digits bs d h room = rw (decodable-digits bs (length d) h room, hex-bytes-digits bs h)

@@ -4,10 +4,10 @@ use digit::digit_of;
 use digit::value_of;
 ghost use mathlib.Core.Path.{_≡_};
 ghost use mathlib.Core.Bool.{true};
-ghost use mathlib.Core.List.{_++_};
-ghost use Prim.Native.Nat.{_*_, _/_, _≤_};
-ghost use lib.ListN.{length, drop};
-ghost use Rattle.hex.specs.Digits.{allDigits, hexBytes, hexDigits, decodable, encodable, hexOf, frontOf};
+ghost use Prim.Native.Nat.{_/_, _≤_};
+ghost use lib.ListN.{length};
+ghost use Rattle.code.specs.Writing.{overFront};
+ghost use Rattle.hex.specs.Digits.{allDigits, hexBytes, decodeCall, encodeCall};
 
 // How many bytes were put to the front of a buffer, or that none were.
 pub enum Hex {
@@ -34,7 +34,7 @@ pub fn all_digits(text: &[u8]) -> bool
 fn put_bytes(digits: &[u8], out: &mut [u8])
     requires { ⌜ allDigits (now digits) ≡ true ⌝ }
     requires { ⌜ length (now digits) / 2 ≤ length (now out) ⌝ }
-    ensures { λ _. ⌜ now (out .exit) ≡ hexBytes (now (digits .entry)) ++ drop (length (now (digits .entry)) / 2) (now (out .entry)) ⌝ }
+    ensures { λ _. ⌜ now (out .exit) ≡ overFront (hexBytes (now (digits .entry))) (now (out .entry)) ⌝ }
 {
     let n = digits.len() / 2;
     let mut i = 0;
@@ -50,7 +50,7 @@ fn put_bytes(digits: &[u8], out: &mut [u8])
 // The bytes of a text of digits of either case, at the front of `out`, and their number. Bad, with `out` as it was, is an odd
 // number of digits, a byte that is no digit, or more bytes than `out` has.
 pub fn decode(text: &[u8], out: &mut [u8]) -> Hex
-    ensures { λ r. ⌜ (r ≡ hexOf (decodable (now (text .entry)) (length (now (out .entry)))) (length (now (text .entry)) / 2)) × (now (out .exit) ≡ frontOf (decodable (now (text .entry)) (length (now (out .entry)))) (hexBytes (now (text .entry))) (now (out .entry))) ⌝ }
+    ensures { λ r. ⌜ (r, now (out .exit)) ≡ decodeCall (now (text .entry)) (now (out .entry)) ⌝ }
 {
     let n = text.len() / 2;
     if text.len() % 2 != 0 {
@@ -68,7 +68,7 @@ pub fn decode(text: &[u8], out: &mut [u8]) -> Hex
 
 // The upper-case digits of bytes, at the front of `out`, and their number. Bad, with `out` as it was, where it has no room.
 pub fn encode(bytes: &[u8], out: &mut [u8]) -> Hex
-    ensures { λ r. ⌜ (r ≡ hexOf (encodable (now (bytes .entry)) (length (now (out .entry)))) (2 * length (now (bytes .entry)))) × (now (out .exit) ≡ frontOf (encodable (now (bytes .entry)) (length (now (out .entry)))) (hexDigits (now (bytes .entry))) (now (out .entry))) ⌝ }
+    ensures { λ r. ⌜ (r, now (out .exit)) ≡ encodeCall (now (bytes .entry)) (now (out .entry)) ⌝ }
 {
     if out.len() / 2 < bytes.len() {
         return Hex::Bad;

@@ -13,6 +13,7 @@ use lib.Dec.{eqb}
 use lib.ListN.{length, getD, take, drop, take-append-drop, length-drop}
 use lib.Seq.{take-at, getD-take, getD-drop, length-take-le}
 use Rattle.code.specs.Symbols.{Below}
+use Rattle.code.specs.Bounds.{longest, widest}
 use Rattle.code.specs.BelowLaws.{below-take, below-drop}
 use Rattle.code.specs.Layers.{layer, syndrome, width, bits, number}
 use Rattle.code.specs.LayersLaws.{length-layer, length-bits, layer-pair-high, layer-pair-low, pair-layers, number-bits, bits-number, syndrome-below, width-least}
@@ -85,7 +86,7 @@ pub last-place : (d to end : ℕ) → d + 2 ≤ to → end ≡ to + (4 + width (
 last-place d to end two e = omega (arith, width-two (to - d) (omega arith))
 
 -- the symbols from d to before `to`, and what stands behind the separator that follows them
-module _ (s : List ℕ) (d to end : ℕ) (two : d + 2 ≤ to) (most : to ≤ d + 256) (is-end : end ≡ to + (4 + width (to - d))) (inside : end ≤ length s) (small : Below 4 s) where
+module _ (s : List ℕ) (d to end : ℕ) (two : d + 2 ≤ to) (most : to ≤ d + longest) (is-end : end ≡ to + (4 + width (to - d))) (inside : end ≤ length s) (small : Below 4 s) where
   abbrev M : List ℕ
   M = take (to - d) (drop d s)
 
@@ -104,7 +105,7 @@ module _ (s : List ℕ) (d to end : ℕ) (two : d + 2 ≤ to) (most : to ≤ d +
   L-room : width (length M) ≤ length L
   L-room = simp length-drop (omega (arith, width-is))
 
-  pub part-few : length part ≤ 16
+  pub part-few : length part ≤ widest
   part-few = omega (arith, length-take-le (end - (to + 4)) L (omega (arith, L-room, width-is)), is-end, width-least (to - d) .least 16 (omega arith))
 
   module _ (written own : Layers) (a : written ≡ both number part) (b : own ≡ both syndrome M) where

@@ -1,7 +1,7 @@
 -- What the comparison of a piece is made of.
 --   common     how many letters two lists share at the front
 --   runStart   where a run of equal letters starts
---   judgedAs   a judgement as the answer of a call
+--   judgedAs   a judgement as a verdict
 use mathlib.Core.Bool.{cond}
 use mathlib.Core.List.{List, [], _∷_}
 use mathlib.Core.Option.{Option, some, none}
@@ -9,8 +9,8 @@ use Prim.Native.Nat.{ℕ, zero, suc}
 use lib.Dec.{eqb}
 use lib.ListN.{getD}
 use Rattle.code.specs.declared.Edit.{Edit}
-use Rattle.judging.specs.declared.Judged.{Judged}
-use Rattle.judging.specs.declared.Judged.the-variants.{Is, Many}
+use Rattle.code.specs.declared.Verdict.{Verdict}
+use Rattle.code.specs.declared.Verdict.the-variants.{Read, Lost}
 
 -- how many letters two lists share at the front
 unfoldable pub common : List ℕ → List ℕ → ℕ
@@ -23,7 +23,7 @@ unfoldable pub runStart : List ℕ → ℕ → ℕ → ℕ
 runStart w x zero = 0
 runStart w x (suc i) = cond (eqb (getD w i 0) x) (runStart w x i) (suc i)
 
--- the named edit, or that there is none
-abbrev pub judgedAs : Option Edit → Judged
-judgedAs (some e) = Is e
-judgedAs none = Many
+-- read with the named edit; lost in step 9 where there is none
+abbrev pub judgedAs : Option Edit → Verdict
+judgedAs (some e) = Read e
+judgedAs none = Lost 9

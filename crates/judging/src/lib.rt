@@ -1,19 +1,15 @@
 // Step 9: a piece against the segment written anew.
 use code::Edit;
+use code::Verdict;
 use compare::tests::stands_at;
 use compare::words::word_at;
 ghost use mathlib.Core.Path.{_≡_};
 ghost use mathlib.Core.Bool.{cond};
-ghost use Prim.Native.Nat.{_+_, _-_, _<_, _≤_};
-ghost use lib.ListN.{length, take, drop, getD};
+ghost use Prim.Native.Nat.{_+_, _<_, _≤_};
+ghost use lib.ListN.{length, getD};
+ghost use Rattle.code.specs.Bounds.{reach};
 ghost use Rattle.code.specs.Edits.{judged};
 ghost use Rattle.judging.specs.Judgement.{common, runStart, judgedAs};
-
-// The edit that turns the segment into the piece, or that one edit is not enough.
-pub enum Judged {
-    Is(Edit),
-    Many,
-}
 
 // How many symbols two lists share at the front: the first place where they differ or one ends.
 fn first_difference(w: &[u8], v: &[u8]) -> usize
@@ -56,40 +52,40 @@ fn run_start(w: &[u8], i: usize) -> usize
 }
 
 // As many symbols: none or one of them changed.
-fn judge_changed(written: &[u8], piece: &[u8], i: usize) -> Judged
-    requires { ⌜ (length (now written) < 65536) × (length (now piece) ≡ length (now written)) × (i ≡ common (now written) (now piece)) ⌝ }
+fn judge_changed(written: &[u8], piece: &[u8], i: usize) -> Verdict
+    requires { ⌜ (length (now written) < reach) × (length (now piece) ≡ length (now written)) × (i ≡ common (now written) (now piece)) ⌝ }
     ensures { λ r. ⌜ r ≡ judgedAs (judged (now (written .entry)) (now (piece .entry))) ⌝ }
 {
     if written.len() <= i {
-        return Judged::Is(Edit::None);
+        return Verdict::Read(Edit::None);
     }
     let next = i + 1;
     if stands_at(&written[next..], piece, next) {
-        return Judged::Is(Edit::Sub(i, piece[i]));
+        return Verdict::Read(Edit::Sub(i, piece[i]));
     }
-    Judged::Many
+    Verdict::Lost(9)
 }
 
 // One symbol less, or one more, in the piece: the first place of its run is named.
-fn judge_run(long: &[u8], short: &[u8], i: usize, less: bool) -> Judged
-    requires { ⌜ (length (now long) < 65536) × (length (now short) + 1 ≡ length (now long)) × (i ≤ length (now short)) × (i ≡ common (now long) (now short)) ⌝ }
+fn judge_run(long: &[u8], short: &[u8], i: usize, less: bool) -> Verdict
+    requires { ⌜ (length (now long) < reach) × (length (now short) + 1 ≡ length (now long)) × (i ≤ length (now short)) × (i ≡ common (now long) (now short)) ⌝ }
     ensures { λ r. ⌜ r ≡ judgedAs (judged (cond less (now (long .entry)) (now (short .entry))) (cond less (now (short .entry)) (now (long .entry)))) ⌝ }
 {
     let next = i + 1;
     if !stands_at(&long[next..], short, i) {
-        return Judged::Many;
+        return Verdict::Lost(9);
     }
     let p = run_start(long, i);
     let x = long[p];
     if less {
-        return Judged::Is(Edit::Del(p, x));
+        return Verdict::Read(Edit::Del(p, x));
     }
-    Judged::Is(Edit::Ins(p, x))
+    Verdict::Read(Edit::Ins(p, x))
 }
 
-// The judgement of a whole piece.
-fn judge_piece(written: &[u8], piece: &[u8]) -> Judged
-    requires { ⌜ (length (now written) < 65536) × (length (now piece) < 65536) ⌝ }
+// Step 9: the edit that turns the written segment into the piece; lost where one is not enough.
+pub fn judge(written: &[u8], piece: &[u8]) -> Verdict
+    requires { ⌜ (length (now written) < reach) × (length (now piece) < reach) ⌝ }
     ensures { λ r. ⌜ r ≡ judgedAs (judged (now (written .entry)) (now (piece .entry))) ⌝ }
 {
     let i = first_difference(written, piece);
@@ -102,13 +98,5 @@ fn judge_piece(written: &[u8], piece: &[u8]) -> Judged
     if piece.len() == written.len() + 1 {
         return judge_run(piece, written, i, false);
     }
-    Judged::Many
-}
-
-// The judgement of the symbols from `from` to before `to`.
-pub fn judge(written: &[u8], s: &[u8], from: usize, to: usize) -> Judged
-    requires { ⌜ (from ≤ to) × (to ≤ length (now s)) × (length (now s) < 65536) × (length (now written) < 65536) ⌝ }
-    ensures { λ r. ⌜ r ≡ judgedAs (judged (now (written .entry)) (take (to - from) (drop from (now (s .entry))))) ⌝ }
-{
-    judge_piece(written, &s[from..to])
+    Verdict::Lost(9)
 }

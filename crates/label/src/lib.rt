@@ -1,11 +1,10 @@
-// The label of a strand: edition 4 bits, k 7, B 8, and 13 spare zero bits, most significant first.
+// The label calls. A label: edition 4 bits, k 7, B 8, and 13 spare zero bits, most significant first.
 ghost use mathlib.Core.Path.{_≡_};
-ghost use mathlib.Core.List.{_++_};
 ghost use Prim.Native.Nat.{_≤_};
-ghost use lib.ListN.{length, drop};
+ghost use lib.ListN.{length};
 ghost use Rattle.code.specs.Refusals.{mostLength, mostBytes};
-ghost use Rattle.code.specs.Writing.{bufferOf};
-ghost use Rattle.code.specs.Label.{labelNumber, fourBytes, labelBytes, numberOf4, labelTest, orderOf};
+ghost use Rattle.code.specs.Writing.{overFront};
+ghost use Rattle.code.specs.Label.{labelNumber, fourBytes, numberOf4, labelCall, orderOf};
 use code::Checked;
 use code::Order;
 use code::Refusal;
@@ -27,7 +26,7 @@ fn label_number(k: u32, b: u32) -> u32
 // The four bytes of a number, most significant first, at the front of `out`.
 fn put_four(n: u32, out: &mut [u8])
     requires { ⌜ 4 ≤ length (now out) ⌝ }
-    ensures { λ _. ⌜ now (out .exit) ≡ fourBytes n ++ drop 4 (now (out .entry)) ⌝ }
+    ensures { λ _. ⌜ now (out .exit) ≡ overFront (fourBytes n) (now (out .entry)) ⌝ }
 {
     out[0] = (n >> 24) as u8;
     out[1] = ((n >> 16) & 255) as u8;
@@ -35,10 +34,13 @@ fn put_four(n: u32, out: &mut [u8])
     out[3] = (n & 255) as u8;
 }
 
-// The label of k and B at the front of `out`; a refusal leaves `out` as it was.
+// Writes the label of k and B: four bytes, most significant first, at the front of `out`: edition 1 in 4 bits, k in 7, B in 8, and
+// 13 zero bits.
+// Turned down, in this order: 1 k is not 2 to 64; 2 B is not 1 to 128; 3 4B is not a multiple of k, or makes more than 64
+// segments; 5 `out` has fewer than four bytes.
+// The bytes of `out` behind the label are untouched; a refusal leaves all of `out` as it was.
 pub fn write(k: u32, b: u32, out: &mut [u8]) -> Checked
-    ensures { λ r. ⌜ r ≡ labelTest k b (length (now (out .entry))) ⌝ }
-    ensures { λ r. ⌜ now (out .exit) ≡ bufferOf (labelTest k b (length (now (out .entry)))) (labelBytes k b) (now (out .entry)) ⌝ }
+    ensures { λ r. ⌜ (r, now (out .exit)) ≡ labelCall k b (now (out .entry)) ⌝ }
 {
     let tested = refusal::order_test(k, b, false);
     let Checked::Fine = tested else {
@@ -66,7 +68,10 @@ fn number_of_four(bytes: &[u8]) -> u32
     (wide(bytes[0]) << 24) | (wide(bytes[1]) << 16) | (wide(bytes[2]) << 8) | wide(bytes[3])
 }
 
-// k and B of a label; what stands behind its four bytes is not read.
+// Reads a label and answers its k and B. Bytes behind the first four are not read.
+// Turned down, in this order: 5 `bytes` has fewer than four bytes; 8 the edition is not 1, or a spare bit is set; 1 k is not 2 to
+// 64; 2 B is not 1 to 128; 3 4B is not a multiple of k, or makes more than 64 segments.
+// It writes to nothing.
 pub fn read(bytes: &[u8]) -> Order
     ensures { λ r. ⌜ r ≡ orderOf (now (bytes .entry)) ⌝ }
 {

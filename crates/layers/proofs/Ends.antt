@@ -9,6 +9,7 @@ use native.Mathlib.Omega.{arith}
 use lib.ListN.{length, getD, take, length-append, length-take}
 use lib.Pow.{pow-mono}
 use lib.Seq.{take-suc, take-length}
+use Rattle.code.specs.Bounds.{longest, widest}
 use Rattle.code.specs.Layers.{Word, bit, layer, digit, sumOfPlaces, sumFrom, number}
 use Rattle.code.specs.LayersLaws.{length-layer, number-below, ones-le, sum-cons, sum-le}
 use Rattle.code.specs.Segment.{total}
@@ -31,14 +32,14 @@ number-end [] b = omega arith
 number-end (true ∷ w) b = rw (length-append w (b ∷ []), add-one) (omega (arith, number-end w b, pow-succ' 2 (length w)))
 number-end (false ∷ w) b = omega (arith, number-end w b)
 
--- the sum of at most 256 places is below 2 ^ 16
-sum-fits : (w : Word) → length w ≤ 256 → sumOfPlaces w < 65536
+-- the sum of the places of a message is below 2 ^ 16
+sum-fits : (w : Word) → length w ≤ longest → sumOfPlaces w < 65536
 unfolding sumOfPlaces sumFrom
 sum-fits [] h = omega arith
 sum-fits (b ∷ w) h = omega (arith, sum-le 255 w (omega arith), sum-cons b w, ones-le (b ∷ w))
 
--- the number of at most 16 bits is below 2 ^ 16
-number-fits : (w : Word) → length w ≤ 16 → number w < 65536
+-- the number that a syndrome writes is below 2 ^ 16
+number-fits : (w : Word) → length w ≤ widest → number w < 65536
 number-fits w h = omega (arith, number-below w, pow-mono h)
 
 -- the first symbols and the one after them
@@ -68,13 +69,13 @@ module _ (m : List ℕ) (i : ℕ) (h : i < length m) where
       pub place-more : v ≡ sumOfPlaces (layer s (take i m)) → v + d * (i + 1) ≡ sumOfPlaces (layer s (take (i + 1) m))
       place-more p = rw (p, e) (sym sum-more)
 
-      pub place-fits : length m ≤ 256 → v ≡ sumOfPlaces (layer s (take i m)) → v + d * (i + 1) < 65536
+      pub place-fits : length m ≤ longest → v ≡ sumOfPlaces (layer s (take i m)) → v + d * (i + 1) < 65536
       place-fits n p = rw (place-more p) (sum-fits (layer s (take (i + 1) m)) (simp (length-layer, length-take) (omega arith)))
 
       pub bit-more : v ≡ number (layer s (take i m)) → 2 * v + d ≡ number (layer s (take (i + 1) m))
       bit-more p = rw (p, e) (sym number-more)
 
-      pub bit-fits : length m ≤ 16 → v ≡ number (layer s (take i m)) → 2 * v + d < 65536
+      pub bit-fits : length m ≤ widest → v ≡ number (layer s (take i m)) → 2 * v + d < 65536
       bit-fits n p = rw (bit-more p) (number-fits (layer s (take (i + 1) m)) (simp (length-layer, length-take) (omega arith)))
 
 module _ (s : ℕ) where
@@ -96,11 +97,9 @@ module _ (s : ℕ) where
     pub without-place : (v : ℕ) → v ≡ sumOfPlaces (layer s m) → (length m * d ≤ v) × (v - length m * d ≡ sumOfPlaces (layer s (take (length m - 1) m)))
     without-place v h = (omega (arith, last-place), omega (arith, last-place))
 
-  -- a sum of few places is small
-  pub small-sum : (m : List ℕ) (v : ℕ) → length m < 65536 → v ≡ sumOfPlaces (layer s m) → v ≤ 65536 * 65536
-  small-sum m v h e =
-      let l = length-layer s m in
-      omega (arith, sum-le 65536 (layer s m) (omega arith))
+  -- v is the sum of places of a message
+  pub small-sum : (m : List ℕ) (v : ℕ) → length m ≤ longest → v ≡ sumOfPlaces (layer s m) → v < 65536
+  small-sum m v h e = omega (arith, sum-fits (layer s m) (simp length-layer h))
 
 pub bit-times : (n d : ℕ) → d < 2 → n * d ≤ n
 bit-times n zero h = omega arith

@@ -1,7 +1,8 @@
 // The layers of a list of symbols: the number of syndrome symbols, sums of places and syndromes.
 ghost use mathlib.Core.Path.{_≡_};
-ghost use Prim.Native.Nat.{_-_, _<_, _≤_};
+ghost use Prim.Native.Nat.{_+_, _-_, _<_, _≤_};
 ghost use lib.ListN.{length, take};
+ghost use Rattle.code.specs.Bounds.{longest, widest};
 ghost use Rattle.code.specs.Layers.{bit, digit, sumOfPlaces, syndrome, width, number};
 ghost use Rattle.layers.specs.Answers.{both, sumsOf};
 
@@ -19,7 +20,7 @@ pub struct Summed {
 
 // t, the number of syndrome symbols that k message symbols have.
 pub fn width_of(k: usize) -> usize
-    requires { ⌜ (0 < k) × (k < 65536) ⌝ }
+    requires { ⌜ (0 < k) × (k ≤ longest) ⌝ }
     ensures { λ r. ⌜ r ≡ width k ⌝ }
 {
     (64 - usize::leading_zeros(2 * k - 1)) as usize
@@ -27,7 +28,7 @@ pub fn width_of(k: usize) -> usize
 
 // The bit of a symbol that a layer holds, as a number.
 pub fn digit_of(symbol: u8, shift: u8) -> usize
-    requires { ⌜ shift < 8 ⌝ }
+    requires { ⌜ shift < 2 ⌝ }
     ensures { λ r. ⌜ (r ≡ digit (bit shift symbol)) × (r < 2) ⌝ }
 {
     ((symbol >> shift) & 1) as usize
@@ -35,7 +36,7 @@ pub fn digit_of(symbol: u8, shift: u8) -> usize
 
 // The check, and the sum of places of each layer.
 pub fn sums(symbols: &[u8]) -> Summed
-    requires { ⌜ length (now symbols) ≤ 256 ⌝ }
+    requires { ⌜ length (now symbols) ≤ longest ⌝ }
     ensures { λ r. ⌜ r ≡ sumsOf (now (symbols .entry)) ⌝ }
 {
     let n = symbols.len();
@@ -62,7 +63,7 @@ pub fn sums(symbols: &[u8]) -> Summed
 
 // The sums of places of some symbols, from those of all but the last.
 pub fn with_last(symbols: &[u8], places: Layers) -> Layers
-    requires { ⌜ (0 < length (now symbols)) × (length (now symbols) < 65536) × (places ≡ both sumOfPlaces (take (length (now symbols) - 1) (now symbols))) ⌝ }
+    requires { ⌜ (0 < length (now symbols)) × (length (now symbols) ≤ longest + 1) × (places ≡ both sumOfPlaces (take (length (now symbols) - 1) (now symbols))) ⌝ }
     ensures { λ r. ⌜ r ≡ both sumOfPlaces (now (symbols .entry)) ⌝ }
 {
     let k = symbols.len();
@@ -75,7 +76,7 @@ pub fn with_last(symbols: &[u8], places: Layers) -> Layers
 
 // The sums of places of all symbols but the last, from those of all.
 pub fn without_last(symbols: &[u8], places: Layers) -> Layers
-    requires { ⌜ (0 < length (now symbols)) × (length (now symbols) < 65536) × (places ≡ both sumOfPlaces (now symbols)) ⌝ }
+    requires { ⌜ (0 < length (now symbols)) × (length (now symbols) ≤ longest) × (places ≡ both sumOfPlaces (now symbols)) ⌝ }
     ensures { λ r. ⌜ r ≡ both sumOfPlaces (take (length (now (symbols .entry)) - 1) (now (symbols .entry))) ⌝ }
 {
     let k = symbols.len();
@@ -88,7 +89,7 @@ pub fn without_last(symbols: &[u8], places: Layers) -> Layers
 
 // The syndrome of each layer, from the sums of places; by a mask where 2k is a power of two.
 pub fn syndromes(symbols: &[u8], places: Layers) -> Layers
-    requires { ⌜ (0 < length (now symbols)) × (length (now symbols) < 65536) × (places ≡ both sumOfPlaces (now symbols)) ⌝ }
+    requires { ⌜ (0 < length (now symbols)) × (length (now symbols) ≤ longest) × (places ≡ both sumOfPlaces (now symbols)) ⌝ }
     ensures { λ r. ⌜ r ≡ both syndrome (now (symbols .entry)) ⌝ }
 {
     let k = symbols.len();
@@ -107,7 +108,7 @@ pub fn syndromes(symbols: &[u8], places: Layers) -> Layers
 
 // The number that each layer writes, the most significant bit first.
 pub fn numbers(symbols: &[u8]) -> Layers
-    requires { ⌜ length (now symbols) ≤ 16 ⌝ }
+    requires { ⌜ length (now symbols) ≤ widest ⌝ }
     ensures { λ r. ⌜ r ≡ both number (now (symbols .entry)) ⌝ }
 {
     let n = symbols.len();

@@ -13,6 +13,8 @@ use Rattle.code.specs.Lists.{putAt, take-put, drop-put, length-put}
 use Rattle.code.specs.Segment.{segment, lastOf, size}
 use Rattle.code.specs.SegmentLaws.{length-segment, last-below}
 use Rattle.code.specs.Layout.{sum, cut, written, strand, extent}
+use Rattle.code.specs.LayoutLaws.{length-strand-cut}
+use Rattle.code.specs.Writing.{overFront}
 
 -- the first i segments of a layout stand in o, up to place `at`; `from` symbols are in them
 pub record Standing (ks s d : List ℕ) (i from at f : ℕ) (marked : Bool) (o : List ℕ) : Type 0 where
@@ -98,10 +100,11 @@ module _ (ks s d : List ℕ) where
           }
 
     -- no segment is left
-    pub end : length ks ≤ i → (at ≡ extent false ks) × (o ≡ strand (cut ks s) ++ drop (extent false ks) d)
+    pub end : sum ks ≡ length s → length ks ≤ i → (at ≡ extent false ks) × (o ≡ overFront (strand (cut ks s)) d)
     unfolding written cut extent
-    end h =
+    end whole h =
         let e = drop-of-length-le ks h in
         let p : at ≡ extent false ks = omega (arith, rw e at (st .placed)) in
         let q : take at o ≡ strand (cut ks s) = sym (append-nil (take at o)) ∙ (rw e at (st .stands)) in
-        (p, sym (take-append-drop at o) ∙ rw (q, st .behind, p))
+        let n : at ≡ length (strand (cut ks s)) = p ∙ sym (length-strand-cut ks s (sym whole)) in
+        (p, sym (take-append-drop at o) ∙ rw (q, st .behind, n))

@@ -1,18 +1,19 @@
 // The strand of a layout: its length, and its segments one behind the other, as symbols and as letters.
 ghost use mathlib.Core.Path.{_≡_};
 ghost use mathlib.Core.Bool.{false};
-ghost use mathlib.Core.List.{_++_};
-ghost use Prim.Native.Nat.{_*_, _<_, _≤_};
-ghost use lib.ListN.{length, drop, replicate};
-ghost use Rattle.code.specs.Layout.{sum, cut, strand, extent};
-ghost use Rattle.code.specs.Writing.{strandOf};
-ghost use Rattle.layout.specs.Lengths.{Lengths};
+ghost use Prim.Native.Nat.{_*_, _≤_};
+ghost use lib.ListN.{length, replicate};
+ghost use Rattle.code.specs.Refusals.{mostSegments};
+ghost use Rattle.code.specs.Bounds.{longest, Length, Equal};
+ghost use Rattle.code.specs.Layout.{sum, Lengths, cut, strand, extent};
+ghost use Rattle.code.specs.Writing.{strandOf, overFront};
 
 // The strand of symbols cut by a list of lengths, at the front of `out`; and its length.
 pub fn write_layout(lengths: &[usize], symbols: &[u8], out: &mut [u8]) -> usize
-    requires { ⌜ Lengths (now lengths) ⌝ }
+    requires { ⌜ Lengths longest (now lengths) ⌝ }
     requires { ⌜ (sum (now lengths) ≡ length (now symbols)) × (extent false (now lengths) ≤ length (now out)) ⌝ }
-    ensures { λ r. ⌜ (r ≡ extent false (now (lengths .entry))) × (now (out .exit) ≡ strand (cut (now (lengths .entry)) (now (symbols .entry))) ++ drop (extent false (now (lengths .entry))) (now (out .entry))) ⌝ }
+    ensures { λ r. ⌜ r ≡ extent false (now (lengths .entry)) ⌝ }
+    ensures { λ _. ⌜ now (out .exit) ≡ overFront (strand (cut (now (lengths .entry)) (now (symbols .entry)))) (now (out .entry)) ⌝ }
 {
     let mut i = 0;
     let mut from = 0;
@@ -33,7 +34,7 @@ pub fn write_layout(lengths: &[usize], symbols: &[u8], out: &mut [u8]) -> usize
 
 // The length of a strand of l segments of k message symbols.
 pub fn extent_of(k: usize, l: usize) -> usize
-    requires { ⌜ (0 < k) × (k < 65536) × (0 < l) × (l < 65536) ⌝ }
+    requires { ⌜ Length k × (1 ≤ l) × (l ≤ mostSegments) ⌝ }
     ensures { λ r. ⌜ r ≡ extent false (replicate l k) ⌝ }
 {
     l * (k + layers::width_of(k) + 6) - 2
@@ -41,9 +42,9 @@ pub fn extent_of(k: usize, l: usize) -> usize
 
 // The letters of the strand that carries bytes in l segments of k symbols, at the front of `out`.
 pub fn write_equal(k: usize, l: usize, message: &[u8], out: &mut [u8])
-    requires { ⌜ (2 ≤ k) × (k ≤ 64) × (l ≤ 64) ⌝ }
-    requires { ⌜ (length (now message) ≤ 128) × (l * k ≡ 4 * length (now message)) × (extent false (replicate l k) ≤ length (now out)) ⌝ }
-    ensures { λ _. ⌜ now (out .exit) ≡ strandOf (replicate l k) (now (message .entry)) ++ drop (extent false (replicate l k)) (now (out .entry)) ⌝ }
+    requires { ⌜ Equal k l ⌝ }
+    requires { ⌜ (l * k ≡ 4 * length (now message)) × (extent false (replicate l k) ≤ length (now out)) ⌝ }
+    ensures { λ _. ⌜ now (out .exit) ≡ overFront (strandOf (replicate l k) (now (message .entry))) (now (out .entry)) ⌝ }
 {
     let mut buffer = [0u8; 512];
     packing::unpack(message, &mut buffer);

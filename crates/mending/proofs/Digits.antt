@@ -16,7 +16,7 @@ use Rattle.code.specs.Layers.{Word, digit, pair}
 use Rattle.code.specs.LayersLaws.{digit-below}
 use Rattle.code.specs.Links.{sent}
 use Rattle.code.specs.Repair.{putIn, leaveOut, mendedWord}
-use Rattle.mending.specs.Answers.{received, pastAll}
+use Rattle.mending.specs.Answers.{pastAll}
 
 -- a bit as a number that the code reads
 pub digit-is : (b c : Bool) (n : ℕ) → b ≡ c → n ≡ digit b → (n ≡ digit c) × (n < 2)
@@ -71,6 +71,12 @@ pub before-mended : (link : Link) (w : Word) (at i : ℕ) (b : Bool) → i < at 
 before-mended Changed w at i b h l = getD-set-other w at i b false (λ e. omega arith)
 before-mended More w at i b h l = leave-before at i w h l
 before-mended Less w at i b h l = put-before b at i w h l
+
+-- the received place of the symbol at place i behind all mended places
+abbrev pub received : Link → ℕ → ℕ
+received Changed i = i
+received More i = i + 1
+received Less i = i - 1
 
 -- place i stands behind the mended one; a changed bit moves no other
 abbrev pub Behind : Link → ℕ → ℕ → Type 0

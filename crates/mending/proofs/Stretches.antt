@@ -2,10 +2,9 @@
 --   lowest-none      no symbol
 --   put-lowest       one more symbol of a stretch
 --   stretch          right symbols put behind right ones
---   received-inside  the stretch behind the mended places was received
+--   rest-few         the symbols behind the mended places are no more than the received ones
 --   inside           a mended place is one of the sent word's, or its end
 --   Places           where the stretches meet
---   Layer            a mended layer
 --   Mended           the symbols of two mended layers
 --   stretch-before   those before the mended places
 --   stretch-between  one more of those between
@@ -27,8 +26,8 @@ use Rattle.code.specs.Links.{sent}
 use Rattle.code.specs.Lists.{putAt, put-one, take-put, length-put}
 use Rattle.code.specs.Repair.{mendedWord}
 use Rattle.mending.specs.declared.Fix.{Fix}
-use Rattle.mending.specs.Answers.{lowest, received, pastAll}
-use Rattle.mending.proofs.Digits.{before-mended, Behind, past-above, past-behind, behind-mended, pair-at}
+use Rattle.mending.specs.Answers.{lowest, pastAll, mendedLayer}
+use Rattle.mending.proofs.Digits.{before-mended, received, Behind, past-above, past-behind, behind-mended, pair-at}
 
 pub lowest-none : (s : List ℕ) (i : ℕ) → lowest s i 0 ≡ []
 unfolding lowest
@@ -67,16 +66,17 @@ stretch s p d from at to order inside same there each front =
     let v : at + n ≡ to = omega arith in
     rw m at (take-put d at b (omega arith)) ∙ rw (front, e) (sym (rw v at (take-add at n p)))
 
-received-add : (link : Link) (i j : ℕ) → (link ≡ Less → 0 < i) → received link (i + j) ≡ received link i + j
-received-add Changed i j h = refl
-received-add More i j h = omega arith
-received-add Less i j h = omega (arith, h refl)
+-- the symbols behind the mended places are no more than the received ones
+pub rest-few : (link : Link) (n k at : ℕ) → k ≡ sent link n → (link ≡ Less → 0 < at) → k - at ≤ n
+rest-few Changed n k at e h = omega arith
+rest-few More n k at e h = omega arith
+rest-few Less n k at e h = omega (arith, h refl)
 
--- the symbols behind place i were received
-pub received-inside : (link : Link) (n i : ℕ) → (link ≡ Less → 0 < i) → sent link n - i ≤ n - received link i
-received-inside Changed n i h = omega arith
-received-inside More n i h = omega arith
-received-inside Less n i h = omega (arith, h refl)
+-- they are the last received ones
+rest-at : (link : Link) (n k at j : ℕ) → k ≡ sent link n → (link ≡ Less → 0 < at) → at + j < k → n - (k - at) + j ≡ received link (at + j)
+rest-at Changed n k at j e h l = omega arith
+rest-at More n k at j e h l = omega arith
+rest-at Less n k at j e h l = omega (arith, h refl)
 
 -- a mended place is one of the sent word's, or its end
 pub inside : (link : Link) (w : Word) (at n : ℕ) (b : Bool) → length w ≡ n → length (mendedWord link w at b) ≡ sent link n → min at n ≤ sent link n
@@ -101,13 +101,9 @@ places link n k high low both first p q g last size there a b u v c d =
       rear = λ i h l. let m : i < sent link n = rw size at l in (past-behind link n high p i (u .0) (u .1) (omega arith) m, past-behind link n low q i (v .0) (v .1) (omega arith) m);
     }
 
--- a mended layer
-abbrev Layer : Link → List ℕ → ℕ → Fix → Word
-Layer link s t f = mendedWord link (layer t s) (f .at) (f .bit)
-
 -- the symbols of two mended layers
 abbrev pub Mended : Link → List ℕ → Fix → Fix → List ℕ
-Mended link s high low = pair (Layer link s 1 high) (Layer link s 0 low)
+Mended link s high low = pair (mendedLayer link 1 s high) (mendedLayer link 0 s low)
 
 -- a symbol of two words is a received one if both bits are
 symbol-at : (h l : Word) (s : List ℕ) (i j : ℕ) → i < length h → i < length l → j < length s → getD h i false ≡ getD (layer 1 s) j false → getD l i false ≡ getD (layer 0 s) j false → getD (pair h l) i 0 ≡ getD s j 0 % 4
@@ -115,9 +111,9 @@ symbol-at h l s i j p q r e f =
     let x = getD s j 0 in
     pair-at h l i p q ∙ rw (e, f, layer-at 1 s j r, layer-at 0 s j r) (omega (arith, digit-bit 1 x, digit-bit 0 x))
 
-module _ (link : Link) (s : List ℕ) (high low : Fix) (k : ℕ) (size : k ≡ sent link (length s)) (highs : length (Layer link s 1 high) ≡ k) (lows : length (Layer link s 0 low) ≡ k) where
+module _ (link : Link) (s : List ℕ) (high low : Fix) (k : ℕ) (size : k ≡ sent link (length s)) (highs : length (mendedLayer link 1 s high) ≡ k) (lows : length (mendedLayer link 0 s low) ≡ k) where
   length-mended : length (Mended link s high low) ≡ k
-  length-mended = length-pair (Layer link s 1 high) (Layer link s 0 low) (highs ∙ sym lows) ∙ highs
+  length-mended = length-pair (mendedLayer link 1 s high) (mendedLayer link 0 s low) (highs ∙ sym lows) ∙ highs
 
   pub stretch-before : (d : List ℕ) (to : ℕ) → length d ≡ k → to ≤ high .at → to ≤ low .at → to ≤ length s → to ≤ k → take to (putAt d 0 (lowest s 0 (to - 0))) ≡ take to (Mended link s high low)
   stretch-before d to e p q r t =
@@ -126,33 +122,34 @@ module _ (link : Link) (s : List ℕ) (high low : Fix) (k : ℕ) (size : k ≡ s
     where
       each : (j : ℕ) → j < to - 0 → getD (Mended link s high low) (0 + j) 0 ≡ getD s (0 + j) 0 % 4
       each j h =
-          symbol-at (Layer link s 1 high) (Layer link s 0 low) s (0 + j) (0 + j) (omega arith) (omega arith) (omega arith)
+          symbol-at (mendedLayer link 1 s high) (mendedLayer link 0 s low) s (0 + j) (0 + j) (omega arith) (omega arith) (omega arith)
           (before-mended link (layer 1 s) (high .at) (0 + j) (high .bit) (omega arith) (omega (arith, length-layer 1 s)))
           (before-mended link (layer 0 s) (low .at) (0 + j) (low .bit) (omega arith) (omega (arith, length-layer 0 s)))
 
   pub stretch-between : (d : List ℕ) (i x y : ℕ) → length d ≡ k → i < k → take i d ≡ take i (Mended link s high low)
-      → x ≡ digit (getD (Layer link s 1 high) i false) → y ≡ digit (getD (Layer link s 0 low) i false)
+      → x ≡ digit (getD (mendedLayer link 1 s high) i false) → y ≡ digit (getD (mendedLayer link 0 s low) i false)
       → take (i + 1) (set d i (2 * x + y)) ≡ take (i + 1) (Mended link s high low)
   stretch-between d i x y e h front p q =
       let n = length-mended in
-      let v : 2 * x + y ≡ getD (Mended link s high low) i 0 = rw (p, q) (sym (pair-at (Layer link s 1 high) (Layer link s 0 low) i (omega arith) (omega arith))) in
+      let v : 2 * x + y ≡ getD (Mended link s high low) i 0 = rw (p, q) (sym (pair-at (mendedLayer link 1 s high) (mendedLayer link 0 s low) i (omega arith) (omega arith))) in
       rw (add-one i, take-suc-set d i (2 * x + y) (omega arith), take-suc (Mended link s high low) i 0 (omega arith), front, v)
 
-  pub stretch-behind : (d : List ℕ) (at : ℕ) → length d ≡ k → at ≤ k → (link ≡ Less → 0 < at) → ((i : ℕ) → at ≤ i → i < k → Behind link (high .at) i × Behind link (low .at) i) → take at d ≡ take at (Mended link s high low) → putAt d at (lowest s (received link at) (k - at)) ≡ Mended link s high low
+  pub stretch-behind : (d : List ℕ) (at : ℕ) → length d ≡ k → at ≤ k → (link ≡ Less → 0 < at) → ((i : ℕ) → at ≤ i → i < k → Behind link (high .at) i × Behind link (low .at) i) → take at d ≡ take at (Mended link s high low) → putAt d at (lowest s (length s - (k - at)) (k - at)) ≡ Mended link s high low
   stretch-behind d at e h some last front =
       let n = length-mended in
-      let r : k - at ≤ length s - received link at = rw size (received-inside link (length s) at some) in
-      let m : length (lowest s (received link at) (k - at)) ≡ k - at = length-lowest s (received link at) (k - at) r in
-      let o = putAt d at (lowest s (received link at) (k - at)) in
-      let l : length o ≡ length d = length-put d at (lowest s (received link at) (k - at)) (omega arith) in
-      sym (take-all k o (omega arith)) ∙ stretch s (Mended link s high low) d (received link at) at k h (omega arith) (omega arith) r each front ∙ take-all k (Mended link s high low) (omega arith)
+      let from = length s - (k - at) in
+      let r : k - at ≤ length s - from = omega (arith, rest-few link (length s) k at size some) in
+      let m : length (lowest s from (k - at)) ≡ k - at = length-lowest s from (k - at) r in
+      let o = putAt d at (lowest s from (k - at)) in
+      let l : length o ≡ length d = length-put d at (lowest s from (k - at)) (omega arith) in
+      sym (take-all k o (omega arith)) ∙ stretch s (Mended link s high low) d from at k h (omega arith) (omega arith) r each front ∙ take-all k (Mended link s high low) (omega arith)
     where
-      each : (j : ℕ) → j < k - at → getD (Mended link s high low) (at + j) 0 ≡ getD s (received link at + j) 0 % 4
+      each : (j : ℕ) → j < k - at → getD (Mended link s high low) (at + j) 0 ≡ getD s (length s - (k - at) + j) 0 % 4
       each j q =
           let f = last (at + j) (omega arith) (omega arith) in
-          let r = received-inside link (length s) at some in
-          let g = received-add link at j some in
-          rw (← received-add link at j some)
-          (symbol-at (Layer link s 1 high) (Layer link s 0 low) s (at + j) (received link (at + j)) (omega arith) (omega arith) (omega arith)
+          let r = rest-few link (length s) k at size some in
+          let g = rest-at link (length s) k at j size some (omega arith) in
+          rw g
+          (symbol-at (mendedLayer link 1 s high) (mendedLayer link 0 s low) s (at + j) (received link (at + j)) (omega arith) (omega arith) (omega arith)
           (behind-mended link (layer 1 s) (high .at) (at + j) (high .bit) (f .0) (rw length-layer (omega arith)))
           (behind-mended link (layer 0 s) (low .at) (at + j) (low .bit) (f .1) (rw length-layer (omega arith))))

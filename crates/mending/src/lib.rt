@@ -3,19 +3,20 @@ use code::Link;
 use code::Repair;
 use layers::digit_of;
 ghost use mathlib.Core.Path.{_≡_};
-ghost use Prim.Native.Nat.{_+_, _-_, _^_, _<_, _≤_, min, max};
+ghost use Prim.Native.Nat.{_+_, _-_, _*_, _<_, _≤_, min, max};
 ghost use mathlib.Core.Bool.{false};
 ghost use lib.ListN.{length, getD};
+ghost use Rattle.code.specs.Bounds.{longest, Length};
 ghost use Rattle.code.specs.Lists.{putAt};
 ghost use Rattle.code.specs.Layers.{layer, digit, pair, sumOfPlaces};
 ghost use Rattle.code.specs.Links.{sent};
 ghost use Rattle.code.specs.Repair.{repair, mended, mendedWord};
 ghost use Rattle.code.specs.declared.Link.the-variants.{Changed, More, Less};
-ghost use Rattle.mending.specs.Answers.{ahead, lowest, received, pastAll};
+ghost use Rattle.mending.specs.Answers.{ahead, lowest, mendedLayer, pastAll};
 
 // The least number that leads from a to b modulo m.
 fn ahead_of(a: usize, b: usize, m: usize) -> usize
-    requires { ⌜ (0 < m) × (m < 131072) ⌝ }
+    requires { ⌜ (0 < m) × (m ≤ 2 * longest) ⌝ }
     ensures { λ r. ⌜ r ≡ ahead a b m ⌝ }
 {
     (b % m + (m - a % m)) % m
@@ -23,7 +24,7 @@ fn ahead_of(a: usize, b: usize, m: usize) -> usize
 
 // The repair of a layer with at most one changed bit: the step to the written syndrome names the only place.
 fn mend_changed(symbols: &[u8], shift: u8, sum: usize, written: usize) -> Repair
-    requires { ⌜ (shift < 8) × (0 < length (now symbols)) × (length (now symbols) < 65536) × (sum ≡ sumOfPlaces (layer shift (now symbols))) ⌝ }
+    requires { ⌜ (shift < 2) × (0 < length (now symbols)) × (length (now symbols) ≤ longest) × (sum ≡ sumOfPlaces (layer shift (now symbols))) ⌝ }
     ensures { λ r. ⌜ mended Changed (layer shift (now (symbols .entry))) r ≡ repair Changed written (layer shift (now (symbols .entry))) ⌝ }
 {
     let k = symbols.len();
@@ -53,7 +54,7 @@ fn mend_changed(symbols: &[u8], shift: u8, sum: usize, written: usize) -> Repair
 
 // The repair of a layer with one bit more: the bit left out takes the ones behind it from the sum, and its own place if it is a one.
 fn mend_more(symbols: &[u8], shift: u8, sum: usize, written: usize) -> Repair
-    requires { ⌜ (shift < 8) × (2 < length (now symbols)) × (length (now symbols) < 65536) × (sum ≡ sumOfPlaces (layer shift (now symbols))) ⌝ }
+    requires { ⌜ (shift < 2) × (2 < length (now symbols)) × (length (now symbols) ≤ longest + 1) × (sum ≡ sumOfPlaces (layer shift (now symbols))) ⌝ }
     ensures { λ r. ⌜ mended More (layer shift (now (symbols .entry))) r ≡ repair More written (layer shift (now (symbols .entry))) ⌝ }
 {
     let mut i = symbols.len();
@@ -76,7 +77,7 @@ fn mend_more(symbols: &[u8], shift: u8, sum: usize, written: usize) -> Repair
 
 // The repair of a layer with one bit less: the bit put in adds the ones behind it to the sum, and its own place if it is a one.
 fn mend_less(symbols: &[u8], shift: u8, sum: usize, written: usize) -> Repair
-    requires { ⌜ (shift < 8) × (length (now symbols) < 65535) × (sum ≡ sumOfPlaces (layer shift (now symbols))) ⌝ }
+    requires { ⌜ (shift < 2) × (length (now symbols) < longest) × (sum ≡ sumOfPlaces (layer shift (now symbols))) ⌝ }
     ensures { λ r. ⌜ mended Less (layer shift (now (symbols .entry))) r ≡ repair Less written (layer shift (now (symbols .entry))) ⌝ }
 {
     let mut i = symbols.len();
@@ -103,7 +104,7 @@ fn mend_less(symbols: &[u8], shift: u8, sum: usize, written: usize) -> Repair
 
 // The repair of the layer `shift` of received symbols, given their sum of places in that layer and the written syndrome.
 pub fn mend(link: Link, symbols: &[u8], shift: u8, sum: usize, written: usize) -> Repair
-    requires { ⌜ (shift < 8) × (2 ≤ sent link (length (now symbols))) × (length (now symbols) < 65535) × (sum ≡ sumOfPlaces (layer shift (now symbols))) ⌝ }
+    requires { ⌜ (shift < 2) × Length (sent link (length (now symbols))) × (sum ≡ sumOfPlaces (layer shift (now symbols))) ⌝ }
     ensures { λ r. ⌜ mended link (layer shift (now (symbols .entry))) r ≡ repair link written (layer shift (now (symbols .entry))) ⌝ }
 {
     match link {
@@ -115,7 +116,7 @@ pub fn mend(link: Link, symbols: &[u8], shift: u8, sum: usize, written: usize) -
 
 // The bit at place i of a layer with `bit` set at place `at`.
 fn changed_digit(symbols: &[u8], shift: u8, at: usize, bit: bool, i: usize) -> usize
-    requires { ⌜ (shift < 8) × (i < length (now symbols)) ⌝ }
+    requires { ⌜ (shift < 2) × (i < length (now symbols)) ⌝ }
     ensures { λ r. ⌜ (r ≡ digit (getD (mendedWord Changed (layer shift (now (symbols .entry))) at bit) i false)) × (r < 2) ⌝ }
 {
     if i == at {
@@ -126,7 +127,7 @@ fn changed_digit(symbols: &[u8], shift: u8, at: usize, bit: bool, i: usize) -> u
 
 // The bit at place i of a layer with the bit at place `at` left out.
 fn more_digit(symbols: &[u8], shift: u8, at: usize, bit: bool, i: usize) -> usize
-    requires { ⌜ (shift < 8) × (i + 1 < length (now symbols)) ⌝ }
+    requires { ⌜ (shift < 2) × (i + 1 < length (now symbols)) ⌝ }
     ensures { λ r. ⌜ (r ≡ digit (getD (mendedWord More (layer shift (now (symbols .entry))) at bit) i false)) × (r < 2) ⌝ }
 {
     if i < at {
@@ -137,7 +138,7 @@ fn more_digit(symbols: &[u8], shift: u8, at: usize, bit: bool, i: usize) -> usiz
 
 // The bit at place i of a layer with `bit` put in before place `at`.
 fn less_digit(symbols: &[u8], shift: u8, at: usize, bit: bool, i: usize) -> usize
-    requires { ⌜ (shift < 8) × (i ≤ length (now symbols)) ⌝ }
+    requires { ⌜ (shift < 2) × (i ≤ length (now symbols)) ⌝ }
     ensures { λ r. ⌜ (r ≡ digit (getD (mendedWord Less (layer shift (now (symbols .entry))) at bit) i false)) × (r < 2) ⌝ }
 {
     if i < at {
@@ -154,7 +155,7 @@ fn less_digit(symbols: &[u8], shift: u8, at: usize, bit: bool, i: usize) -> usiz
 
 // The bit at place i of a mended layer.
 fn mended_digit(link: Link, symbols: &[u8], shift: u8, at: usize, bit: bool, i: usize) -> usize
-    requires { ⌜ (shift < 8) × (i < sent link (length (now symbols))) ⌝ }
+    requires { ⌜ (shift < 2) × (i < sent link (length (now symbols))) ⌝ }
     ensures { λ r. ⌜ (r ≡ digit (getD (mendedWord link (layer shift (now (symbols .entry))) at bit) i false)) × (r < 2) ⌝ }
 {
     match link {
@@ -203,23 +204,11 @@ fn put_symbols(symbols: &[u8], from: usize, out: &mut [u8], at: usize, to: usize
     }
 }
 
-// The received place of the symbol that stands at place i behind all mended ones.
-fn behind(link: Link, i: usize) -> usize
-    requires { ⌜ (link ≡ Less → 0 < i) × (i < 2 ^ 63) ⌝ }
-    ensures { λ r. ⌜ r ≡ received link i ⌝ }
+// The place behind a mended one; 0 where the layer does not change.
+fn past(link: Link, symbols: &[u8], at: usize) -> usize
+    ensures { λ r. ⌜ (at < length (now (symbols .entry)) → r ≡ at + 1) × (length (now (symbols .entry)) ≤ at → r ≡ pastAll link (length (now (symbols .entry)))) ⌝ }
 {
-    match link {
-        Link::Changed => i,
-        Link::More => i + 1,
-        Link::Less => i - 1,
-    }
-}
-
-// The place behind a mended one, n symbols being received; 0 where the layer does not change.
-fn past(link: Link, at: usize, n: usize) -> usize
-    requires { ⌜ n < 2 ^ 63 ⌝ }
-    ensures { λ r. ⌜ (at < n → r ≡ at + 1) × (n ≤ at → r ≡ pastAll link n) ⌝ }
-{
+    let n = symbols.len();
     if at < n {
         return at + 1;
     }
@@ -233,14 +222,17 @@ fn past(link: Link, at: usize, n: usize) -> usize
 // The symbols whose layers are the two mended ones, in `out`: received ones before the first mended place and behind the last.
 pub fn mended_pair(link: Link, symbols: &[u8], high: Fix, low: Fix, out: &mut [u8])
     requires { ⌜ length (now out) ≡ sent link (length (now symbols)) ⌝ }
-    requires { ⌜ length (mendedWord link (layer 1 (now symbols)) (high .at) (high .bit)) ≡ length (now out) ⌝ }
-    requires { ⌜ length (mendedWord link (layer 0 (now symbols)) (low .at) (low .bit)) ≡ length (now out) ⌝ }
-    ensures { λ _. ⌜ now (out .exit) ≡ pair (mendedWord link (layer 1 (now (symbols .entry))) (high .at) (high .bit)) (mendedWord link (layer 0 (now (symbols .entry))) (low .at) (low .bit)) ⌝ }
+    requires { ⌜ length (mendedLayer link 1 (now symbols) high) ≡ length (now out) ⌝ }
+    requires { ⌜ length (mendedLayer link 0 (now symbols) low) ≡ length (now out) ⌝ }
+    ensures { λ _. ⌜ now (out .exit) ≡ pair (mendedLayer link 1 (now (symbols .entry)) high) (mendedLayer link 0 (now (symbols .entry)) low) ⌝ }
 {
     let n = symbols.len();
     let k = out.len();
     let first = least(least(high.at, low.at), n);
-    let last = least(greatest(past(link, high.at, n), past(link, low.at, n)), k);
+    let last = least(
+        greatest(past(link, symbols, high.at), past(link, symbols, low.at)),
+        k,
+    );
     put_symbols(symbols, 0, out, 0, first);
     let mut i = first;
     while i < last {
@@ -249,5 +241,5 @@ pub fn mended_pair(link: Link, symbols: &[u8], high: Fix, low: Fix, out: &mut [u
         out[i] = (2 * x + y) as u8;
         i += 1;
     }
-    put_symbols(symbols, behind(link, i), out, i, k);
+    put_symbols(symbols, n - (k - i), out, i, k);
 }

@@ -49,3 +49,8 @@ pub moved-room : (j : Shift) (k : ℕ) → (k ≤ moved j (k + 1)) × (moved j k
 moved-room level k = (omega arith, omega arith)
 moved-room early k = (omega arith, omega arith)
 moved-room late k = (omega arith, omega arith)
+
+pub moved-near : (j : Shift) (k : ℕ) → moved j k ≤ k + 1
+moved-near level k = omega arith
+moved-near early k = omega arith
+moved-near late k = omega arith

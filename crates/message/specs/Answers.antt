@@ -1,27 +1,34 @@
 -- What the functions of steps 2 to 7 answer.
---   shiftIndex   the number of a shift in the order 0, −1, +1; 3 where none was found
---   shiftOf      the shift of a number
---   tookBy       whether the symbols at D are taken as they stand
---   IsGot        a message in a buffer, or the step that loses it
+--   separatorAs   the shift that was found, or none, as the answer of step 2
+--   shiftOf       the shift of a number
+--   tookBy        whether the symbols at D are taken as they stand
+--   repairedAt    step 7 behind a moved separator
+--   hitAt         step 3 at a place
+--   wholeAt       steps 4 to 7 at a place
+--   IsGot         a message in a buffer, or the step that loses it
 use mathlib.Core.Path.{_≡_}
 use mathlib.Core.Bool.{Bool, _||_}
 use mathlib.Core.List.{List, [], _∷_}
 use mathlib.Core.Option.{Option, some, none}
-use Prim.Native.Nat.{ℕ, zero, suc}
+use Prim.Native.Nat.{ℕ, zero, suc, _+_}
+use lib.ListN.{take, drop}
+use Rattle.code.specs.Layers.{width}
 use Rattle.code.specs.Symbols.{Below}
 use Rattle.code.specs.Reading.{Shift, level, early, late, starts, message, lost}
 use Rattle.code.specs.Reading as R
-use lib.ListN.{drop}
 use Rattle.tail.specs.declared.Tail.{Tail}
 use Rattle.tail.specs.Tails.{syndromeIn, IsTail}
 use Rattle.message.specs.declared.Got.{Got}
+use Rattle.message.specs.declared.Got.the-variants.{Message, Lost}
+use Rattle.message.specs.declared.Separator.{Separator}
+use Rattle.message.specs.declared.Separator.the-variants.{Moved, Missing}
 
--- the number of a shift in the order in which it is tried; 3 for none
-abbrev pub shiftIndex : Option Shift → ℕ
-shiftIndex (some level) = 0
-shiftIndex (some early) = 1
-shiftIndex (some late) = 2
-shiftIndex none = 3
+-- the number of the shift that was found, in the order in which it is tried; or that there is none
+abbrev pub separatorAs : Option Shift → Separator
+separatorAs (some level) = Moved 0
+separatorAs (some early) = Moved 1
+separatorAs (some late) = Moved 2
+separatorAs none = Missing
 
 -- the shift of a number below 3
 abbrev pub shiftOf : ℕ → Shift
@@ -29,13 +36,27 @@ shiftOf zero = level
 shiftOf (suc zero) = early
 shiftOf (suc (suc n)) = late
 
--- the buffer has the message, and r step 0 with what follows the message; or r has the step that loses it
-abbrev pub IsGot : R.Got → List ℕ → Got → Type 0
-IsGot (message m) out r = (r .step ≡ 0) × (out ≡ m) × IsTail m (r .tail) × Below 4 m
-IsGot (lost step) out r = r .step ≡ step
-
 -- the symbols at D are taken as they stand, by what follows them: check and syndrome
 abbrev pub tookBy : Shift → ℕ → List ℕ → Tail → Bool
 tookBy level k d t = starts (t .check ∷ []) (drop k d) || starts (syndromeIn t) (R.afterSeparator level k d)
 tookBy early k d t = starts (syndromeIn t) (R.afterSeparator early k d)
 tookBy late k d t = starts (syndromeIn t) (R.afterSeparator late k d)
+
+-- step 7 with the separator moved by j; d is the symbols from D on
+abbrev pub repairedAt : Shift → ℕ → List ℕ → R.Got
+repairedAt j k d = R.repaired (R.linkOf j) (width k) (take (R.moved j k) d) (R.afterSeparator j k d)
+
+-- step 3 for the segment at p, whose marker is hit
+abbrev pub hitAt : ℕ → ℕ → List ℕ → R.Got
+hitAt k p s = R.gotHit k (drop p s) (R.separatorAt k (drop (p + 2) s))
+
+-- steps 4 to 7 for the message at d, whose marker is whole
+abbrev pub wholeAt : ℕ → ℕ → List ℕ → R.Got
+wholeAt k d s = R.gotWhole k (drop d s) (R.separatorAt k (drop d s))
+
+-- the buffer has the message, and the answer what follows it; or the answer has the step that loses it
+abbrev pub IsGot : R.Got → List ℕ → Got → Type 0
+IsGot (message m) out (Message t) = (out ≡ m) × IsTail m t × Below 4 m
+IsGot (message m) out (Lost n) = ⊥
+IsGot (lost step) out (Message t) = ⊥
+IsGot (lost step) out (Lost n) = n ≡ step

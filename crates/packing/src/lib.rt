@@ -1,55 +1,68 @@
 // Symbols and bytes, four symbols to a byte.
 ghost use mathlib.Core.Path.{_≡_};
 ghost use mathlib.Core.List.{_++_};
-ghost use Prim.Native.Nat.{_*_, _/_, _<_, _≤_};
-ghost use lib.ListN.{length, drop};
+ghost use Prim.Native.Nat.{_+_, _*_, _/_, _%_, _<_, _≤_};
+ghost use lib.ListN.{length, getD, drop};
 ghost use Rattle.code.specs.Symbols.{Below, byteOf, symbols, bytes};
+ghost use Rattle.packing.specs.Words.{wordOf, Symbols};
 
-// The byte of four symbols, the first in its highest two bits: of the product of the word that they stand in, bits 24 to 31.
+// The byte of four symbols, the first in its highest two bits.
 pub fn pack4(a: u8, b: u8, c: u8, d: u8) -> u8
     requires { ⌜ (a < 4) × (b < 4) × (c < 4) × (d < 4) ⌝ }
     ensures { λ r. ⌜ r ≡ byteOf a b c d ⌝ }
 {
-    let word = a as u64 + 256 * (b as u64) + 65536 * (c as u64) + 16777216 * (d as u64);
-    (word * 1074791425 / 16777216 % 256) as u8
+    (a << 6) | (b << 4) | (c << 2) | d
 }
 
-// The two symbols of four bits, the first in the lower byte.
-const PAIRS: [u16; 16] = [
-    0,
-    256,
-    512,
-    768,
-    1,
-    257,
-    513,
-    769,
-    2,
-    258,
-    514,
-    770,
-    3,
-    259,
-    515,
-    771,
-];
+// The byte of four symbols, each in a byte of a word, the first in the lowest: by pairs, then the pair of pairs.
+fn pack_word(word: u32) -> u8
+    requires { ⌜ Symbols word ⌝ }
+    ensures { λ r. ⌜ r ≡ byteOf (word % 256) (word / 256 % 256) (word / 65536 % 256) (word / 16777216) ⌝ }
+{
+    let pairs = ((word << 2) | (word >> 8)) & 0x000F000F;
+    (((pairs << 4) | (pairs >> 16)) & 255) as u8
+}
 
-// The symbols of bytes, four to a byte, at the front of `out`, two at a time from one copy of the table.
+// The four symbols of a byte, each in a byte of a word, the first in the lowest: by halves, then the symbols of each.
+fn spread(x: u8) -> u32
+    ensures { λ r. ⌜ r ≡ wordOf (x / 64 % 4) (x / 16 % 4) (x / 4 % 4) (x % 4) ⌝ }
+{
+    let byte = x as u32;
+    let halves = ((byte << 16) | (byte >> 4)) & 0x000F000F;
+    ((halves << 8) | (halves >> 2)) & 0x03030303
+}
+
+// A byte as a word.
+fn wide(x: u8) -> u32
+    ensures { λ r. ⌜ r ≡ x ⌝ }
+{
+    x as u32
+}
+
+// Four symbols from place i on as one word, the first in its lowest byte.
+fn word_at(symbols: &[u8], i: usize) -> u32
+    requires { ⌜ i + 4 ≤ length (now symbols) ⌝ }
+    ensures { λ r. do let s = now (symbols .entry) in ⌜ r ≡ wordOf (getD s i 0) (getD s (i + 1) 0) (getD s (i + 2) 0) (getD s (i + 3) 0) ⌝ }
+{
+    wide(symbols[i])
+        | (wide(symbols[i + 1]) << 8)
+        | (wide(symbols[i + 2]) << 16)
+        | (wide(symbols[i + 3]) << 24)
+}
+
+// The symbols of bytes, four to a byte, at the front of `out`.
 pub fn unpack(bytes: &[u8], out: &mut [u8])
     requires { ⌜ 4 * length (now bytes) ≤ length (now out) ⌝ }
     ensures { λ _. ⌜ now (out .exit) ≡ symbols (now (bytes .entry)) ++ drop (4 * length (now (bytes .entry))) (now (out .entry)) ⌝ }
 {
-    let pairs = PAIRS;
     let mut i = 0;
     while i < bytes.len() {
-        let x = bytes[i];
+        let word = spread(bytes[i]);
         let j = 4 * i;
-        let first = pairs[(x >> 4) as usize];
-        let second = pairs[(x & 15) as usize];
-        out[j] = (first % 256) as u8;
-        out[j + 1] = (first / 256) as u8;
-        out[j + 2] = (second % 256) as u8;
-        out[j + 3] = (second / 256) as u8;
+        out[j] = (word & 255) as u8;
+        out[j + 1] = ((word >> 8) & 255) as u8;
+        out[j + 2] = ((word >> 16) & 255) as u8;
+        out[j + 3] = (word >> 24) as u8;
         i += 1;
     }
 }
@@ -63,8 +76,7 @@ pub fn pack(symbols: &[u8], out: &mut [u8])
     let n = symbols.len() / 4;
     let mut i = 0;
     while i < n {
-        let j = 4 * i;
-        out[i] = pack4(symbols[j], symbols[j + 1], symbols[j + 2], symbols[j + 3]);
+        out[i] = pack_word(word_at(symbols, 4 * i));
         i += 1;
     }
 }

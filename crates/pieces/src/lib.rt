@@ -5,13 +5,13 @@ use code::Located;
 use code::Refusal;
 use received::received_test;
 ghost use mathlib.Core.Path.{_≡_};
-ghost use Prim.Native.Nat.{_-_};
-ghost use Rattle.code.specs.Refusals.{testNumber, testPlace};
-ghost use Rattle.code.specs.ReadCall.{pieceTest, outcomesOf, startOf, pieceLength, pieceOf, partOf, locatedOf};
+ghost use Rattle.code.specs.ReadCall.{pieceCall, locateCall};
 
-// Where the piece of a segment stands, the segments being counted from 1; or why the call is turned down.
+// Answers where the piece of a segment starts and where it ends, the segments being counted from 1; for callers that take places
+// and not a part.
+// Turned down, in this order: 1 to 4 and 6 as for a reading; 9 there is no such segment.
 pub fn locate(k: u32, b: u32, letters: &[u8], segment: u32) -> Located
-    ensures { λ r. ⌜ r ≡ locatedOf (pieceTest k b (now (letters .entry)) segment) (startOf (outcomesOf k b (now (letters .entry))) (segment - 1)) (pieceLength (outcomesOf k b (now (letters .entry))) (segment - 1)) ⌝ }
+    ensures { λ r. ⌜ r ≡ locateCall k b (now (letters .entry)) segment ⌝ }
 {
     let received = received_test(k, b, letters.len());
     if let Checked::Refused(r) = received {
@@ -27,11 +27,13 @@ pub fn locate(k: u32, b: u32, letters: &[u8], segment: u32) -> Located
         return Located::Refused(Refusal::NoSuchSegment);
     }
     let n = letters.len();
-    let span = equal_segments::span_of(k as usize, l as usize, &s[..n], segment as usize - 1);
-    Located::At(span.start, span.end)
+    equal_segments::span_of(k as usize, l as usize, &s[..n], segment as usize - 1)
 }
 
-// The letters of a segment's piece and the number 0; or an empty part, and number and place of why the call is turned down.
+// Hands back the piece of a segment, from 1: its stretch of the caller's own `letters`, received for k and B; `number` and
+// `place` become 0.
+// Turned down, in this order: 1 to 4 and 6 as for a reading; 9 there is no such segment. Then the part is empty, and `number` and
+// `place` become those of the refusal.
 pub fn piece<'a>(
     k: u32,
     b: u32,
@@ -40,9 +42,7 @@ pub fn piece<'a>(
     number: &mut u8,
     place: &mut usize,
 ) -> &'a [u8]
-    ensures { λ r. ⌜ now r ≡ partOf (pieceTest k b (now (letters .entry)) segment) (pieceOf (outcomesOf k b (now (letters .entry))) (now (letters .entry)) segment) ⌝ }
-    ensures { λ _. ⌜ now (number .exit) ≡ testNumber (pieceTest k b (now (letters .entry)) segment) ⌝ }
-    ensures { λ _. ⌜ now (place .exit) ≡ testPlace (pieceTest k b (now (letters .entry)) segment) ⌝ }
+    ensures { λ r. ⌜ (now r, (now (number .exit), now (place .exit))) ≡ pieceCall k b (now (letters .entry)) segment ⌝ }
 {
     let located = locate(k, b, letters, segment);
     match located {

@@ -28,7 +28,7 @@ fn print_counts(clean: u32, corrected: u32, lost: u32) {
 fn print_strand(k: u32, b: u32, letters: &[u8]) {
     let mut message = [0u8; 128];
     let mut sheet = [0u8; 16];
-    match dnalm::read(k, b, letters, &mut message, &mut sheet) {
+    match reader::read(k, b, letters, &mut message, &mut sheet) {
         Counted::Counts(clean, corrected, lost) => {
             print_message(lines::front(&message, b as usize));
             print_counts(clean, corrected, lost);

@@ -1,205 +1,199 @@
 -- The walk over a layout: what stands, followed by what is to come, is the whole.
+--   Walk            how far the walk has come
+--   walk-begin      it holds at the start
+--   walk-room       the next message has room
+--   walk-asks       what the reading of the next segment asks
+--   walk-numbered   its verdict has a number
+--   walk-turn       it holds behind that segment
+--   Walked          what the walk leaves in its buffers
+--   walk-end        at the end it gives the whole
 use mathlib.Core.Path.{_≡_, refl, sym, ap, _∙_}
-use mathlib.Core.Bool.{Bool, true, false, not, false≢true}
-use mathlib.Core.List.{List, [], _∷_, _++_, append-assoc, append-nil}
+use mathlib.Core.Bool.{Bool, true, not}
+use mathlib.Core.List.{List, [], _∷_, _++_, map, append-assoc, append-nil}
 use mathlib.Core.Option.{Option, some, none}
-use Prim.Native.Nat.{ℕ, zero, suc, _+_, _≤_, _<_}
+use Prim.Native.Nat.{ℕ, zero, suc, _+_, _-_, _≤_, _<_}
 use native.Mathlib.Numerals.{add-one}
 use native.Mathlib.Omega.{arith}
 use borrow.Author.Tests.{ne-eqb}
 use lib.Dec.{eqb}
-use lib.ListN.{length, getD, take, drop, set, length-drop, length-set, length-replicate, drop-of-length-le}
-use lib.Seq.{drop-cons, take-all, take-suc-set, length-take-le}
+use lib.ListN.{length, getD, take, drop, set, length-drop, length-set, drop-of-length-le}
+use lib.Seq.{drop-cons, drop-drop, take-all, take-suc-set, length-take-le}
 use Rattle.code.specs.Lists.{putAt, take-put, length-put}
-use Rattle.code.specs.Segment.{size}
-use Rattle.code.specs.Reading.{clean, readOne}
-use Rattle.code.specs.Reading as R
-use Rattle.code.specs.Layout.{sum, joined}
-use Rattle.code.specs.Strands.{Outcome, unfound, scan, reading, outcomes, messagesOf, marksOf, markOf}
-use Rattle.code.specs.MessageLengths.{read-length}
-use Rattle.reading.specs.declared.Reached.{Reached}
-use Rattle.ending.specs.Followers.{followers}
-use Rattle.next.specs.Steps.{Step, afterLost, afterOne, stepOf, going}
-use Rattle.reading.specs.StepsLaws.{nextOf, going-step}
-use Rattle.reading.specs.Walks.{IsReached, Known, Within, done, more, endsFrom}
+use Rattle.code.specs.Bounds.{longest, Length, Received}
+use Rattle.code.specs.Layout.{sum, Lengths, more, joined}
+use Rattle.code.specs.LayoutLaws.{lengths-at}
+use Rattle.code.specs.Strands.{Outcome, reading, outcomes, messagesOf, verdictsOf}
+use Rattle.code.specs.Verdicts.{verdictNumber, Numbered}
+use Rattle.scan.specs.declared.Next.{Next}
+use Rattle.scan.specs.declared.Next.the-variants.{At, Clean, Nowhere}
+use Rattle.scan.specs.Scans.{startOf, placeOf, Known}
+use Rattle.steps.specs.declared.Answer.{Answer}
+use Rattle.steps.specs.Steps.{Step, stepOf, going, Marked, IsStep}
+use Rattle.steps.specs.StepsLaws.{going-step, step-length, step-end, step-numbered, startPlace, place-start, place-inside}
+use Rattle.reading.specs.Walks.{endsFrom}
 
--- Lengths within the limits
+-- a part of a buffer, as the logic puts it back
+part-put : (a n : ℕ) (d y b : List ℕ) → y ≡ b → length b ≡ n → take a d ++ (y ++ drop (a + n - a) (drop a d)) ≡ putAt d a b
+unfolding putAt
+part-put a n d y b e h =
+    let q : a + n - a ≡ length b = omega arith in
+    rw (e, q, drop-drop (length b) a d) (sym (append-assoc (take a d) b (drop (a + length b) d)))
 
-pub within-at : (ks : List ℕ) (i : ℕ) → Within ks → i < length ks → (2 ≤ getD ks i 0) × (getD ks i 0 ≤ 64)
-within-at [] i done h = absurd (omega arith)
-within-at (k ∷ ks) zero (more l m w) h = (l, m)
-within-at (k ∷ ks) (suc i) (more l m w) h = within-at ks i w (omega arith)
+-- the lengths behind some of a layout
+lengths-drop : {most : ℕ} (i : ℕ) (ks : List ℕ) → Lengths most ks → Lengths most (drop i ks)
+lengths-drop zero ks hs = hs
+lengths-drop (suc i) [] hs = hs
+lengths-drop (suc i) (k ∷ ks) (more h m hs) = lengths-drop i ks hs
 
--- a length behind is none, or one of the layout
-pub record Behind (ks : List ℕ) : Type 0 where
-  pub most : nextOf ks ≤ 256
-  pub not-one : nextOf ks ≡ 1 → ⊥
-  pub none-left : nextOf ks ≡ 0 → ks ≡ []
+-- behind the first segment a start may be known to be clean
+marked-behind : (next : Next) → Marked next true
+marked-behind (At p f) = tt
+marked-behind (Clean p f) = refl
+marked-behind Nowhere = tt
 
-pub within-behind : (ks : List ℕ) (i : ℕ) → Within ks → Behind (drop i ks)
-within-behind [] zero done = record { most = omega arith; not-one = λ e. omega arith; none-left = λ e. refl }
-within-behind [] (suc i) done = record { most = omega arith; not-one = λ e. omega arith; none-left = λ e. refl }
-within-behind (k ∷ ks) zero (more l m w) = record { most = omega arith; not-one = λ e. omega arith; none-left = λ e. absurd (omega arith) }
-within-behind (k ∷ ks) (suc i) (more l m w) = within-behind ks i w
+nothing-left : (x : Option (ℕ × ℕ)) (marked : Bool) (s : List ℕ) → going x marked [] s ≡ []
+unfolding going reading
+nothing-left (some x) marked s = refl
+nothing-left none marked s = refl
 
--- What a step gives
-
-module _ (marked : Bool) (f k next p : ℕ) (s : List ℕ) where
-  abbrev S : List ℕ
-  S = drop p s
-
-  lost-length : (step : ℕ) (x : Option ℕ) → length (afterLost k p s step x .outcome .message) ≡ k
-  lost-length step (some o) = length-replicate k 0
-  lost-length step none = length-replicate k 0
-
-  -- a message has k symbols
-  pub step-length : (found : Bool) → 1 ≤ k → length (stepOf found marked f k next p s .outcome .message) ≡ k
-  unfolding stepOf
-  step-length false l = length-replicate k 0
-  step-length true l = go (readOne marked f k (followers next) S S) refl
-    where
-      go : (x : R.One) → readOne marked f k (followers next) S S ≡ x → length (afterOne marked k next p s x .outcome .message) ≡ k
-      go (R.One.read m e o) q = read-length marked f k (followers next) S S m e o l q
-      go (R.One.lost step) q = lost-length step (scan (size marked k) (followers next) S S)
-
-  lost-end : (step : ℕ) (x : Option ℕ) → p ≤ length s → afterLost k p s step x .start ≤ length s → afterLost k p s step x .start ≡ p + length (afterLost k p s step x .outcome .piece)
-  lost-end step (some o) h l = let q : length (take o S) ≡ o = length-take-le o S (simp length-drop (omega arith)) in rw q
-  lost-end step none h l = simp length-drop (omega arith)
-
-  -- the next start is where the piece ends
-  pub step-end : (found : Bool) → p ≤ length s → (found ≡ false → p ≡ length s) → stepOf found marked f k next p s .start ≤ length s → stepOf found marked f k next p s .start ≡ p + length (stepOf found marked f k next p s .outcome .piece)
-  unfolding stepOf
-  step-end false h z l = omega (arith, z refl)
-  step-end true h z l = go (readOne marked f k (followers next) S S) l
-    where
-      go : (x : R.One) → afterOne marked k next p s x .start ≤ length s → afterOne marked k next p s x .start ≡ p + length (afterOne marked k next p s x .outcome .piece)
-      go (R.One.read m e o) l = let q : length (take o S) ≡ o = length-take-le o S (simp length-drop (omega arith)) in rw q
-      go (R.One.lost step) l = lost-end step (scan (size marked k) (followers next) S S) h l
-
-  lost-unfound : (step : ℕ) (x : Option ℕ) → afterLost k p s step x .found ≡ false → afterLost k p s step x .start ≡ length s
-  lost-unfound step (some o) e = absurd (let z : _≡_ {A = ℕ} 0 1 = cc in omega arith)
-  lost-unfound step none e = refl
-
-  -- where no start is found, reading is at the strand's end
-  pub step-unfound : (found : Bool) → stepOf found marked f k next p s .found ≡ false → stepOf found marked f k next p s .start ≡ length s
-  unfolding stepOf
-  step-unfound false e = refl
-  step-unfound true e = go (readOne marked f k (followers next) S S) e
-    where
-      go : (x : R.One) → afterOne marked k next p s x .found ≡ false → afterOne marked k next p s x .start ≡ length s
-      go (R.One.read m d o) e = absurd (let z : _≡_ {A = ℕ} 0 1 = cc in omega arith)
-      go (R.One.lost step) e = lost-unfound step (scan (size marked k) (followers next) S S) e
+-- the numbers of the verdicts of outcomes
+abbrev pub numbersOf : List Outcome → List ℕ
+numbersOf os = map verdictNumber (verdictsOf os)
 
 module _ (ks s : List ℕ) where
   -- the outcomes that are to come
-  abbrev pub rest : ℕ → Reached → List Outcome
-  rest i r = going (r .found) (not (eqb i 0)) (r .f) (drop i ks) (r .start) s
+  abbrev pub rest : ℕ → Next → List Outcome
+  rest i next = going (startOf next) (not (eqb i 0)) (drop i ks) s
 
-  pub record Walk (symbols marks ends : List ℕ) (r : Reached) (at i : ℕ) : Type 0 where
+  -- where the last piece ended
+  abbrev pub place : Next → ℕ
+  place next = startPlace (startOf next) (length s)
+
+  -- i segments are read, their messages are the first `at` symbols, and the next one starts at `next`
+  pub record Walk (symbols verdicts ends : List ℕ) (next : Next) (at i : ℕ) : Type 0 where
     pub inside : i ≤ length ks
     pub behind : at + sum (drop i ks) ≡ length symbols
     pub symbols-room : length symbols ≡ sum ks
-    pub marks-room : length marks ≡ length ks
+    pub verdicts-room : length verdicts ≡ length ks
     pub ends-room : length ends ≡ length ks
-    pub start : r .start ≤ length s
-    pub small : r .f < 4
-    pub unfound : r .found ≡ false → r .start ≡ length s
-    pub known : r .clean ≡ true → (0 < i) × (clean (nextOf (drop i ks)) (r .f) (drop (r .start) s) ≡ true)
-    pub messages-are : take at symbols ++ messagesOf (rest i r) ≡ messagesOf (outcomes ks s)
-    pub marks-are : take i marks ++ marksOf (rest i r) ≡ marksOf (outcomes ks s)
-    pub ends-are : take i ends ++ endsFrom (r .start) (rest i r) ≡ endsFrom 0 (outcomes ks s)
+    pub known : Known s (drop i ks) next
+    pub marked : Marked next (not (eqb i 0))
+    pub messages-are : take at symbols ++ messagesOf (rest i next) ≡ messagesOf (outcomes ks s)
+    pub verdicts-are : take i verdicts ++ numbersOf (rest i next) ≡ numbersOf (outcomes ks s)
+    pub ends-are : take i ends ++ endsFrom (place next) (rest i next) ≡ endsFrom 0 (outcomes ks s)
 
-  all-left : (r : Reached) → r .found ≡ true → r .start ≡ 0 → r .f ≡ 0 → rest 0 r ≡ outcomes ks s
+  pub walk-begin : (symbols verdicts ends : List ℕ) → length symbols ≡ sum ks → length verdicts ≡ length ks → length ends ≡ length ks → Walk symbols verdicts ends (At 0 0) 0 0
   unfolding going
-  all-left r u v w = rw (u, v, w)
-
-  pub walk-begin : (symbols marks ends : List ℕ) (r : Reached) → length symbols ≡ sum ks → length marks ≡ length ks → length ends ≡ length ks → r .found ≡ true → r .start ≡ 0 → r .f ≡ 0 → r .clean ≡ false → Walk symbols marks ends r 0 0
-  walk-begin symbols marks ends r a b c u v w x =
-      let q : rest 0 r ≡ outcomes ks s = all-left r u v w in
+  walk-begin symbols verdicts ends a b c =
       record {
         inside = omega arith;
-        behind = omega (arith, a);
+        behind = omega arith;
         symbols-room = a;
-        marks-room = b;
+        verdicts-room = b;
         ends-room = c;
-        start = omega (arith, v);
-        small = omega (arith, w);
-        unfound = λ e. absurd (let g : true ≡ false = sym u ∙ e in let z : _≡_ {A = ℕ} 0 1 = cc in omega arith);
-        known = λ e. absurd (false≢true (sym x ∙ e));
-        messages-are = ap messagesOf q;
-        marks-are = ap marksOf q;
-        ends-are = ap (endsFrom (r .start)) q ∙ ap (λ (x : ℕ). endsFrom x (outcomes ks s)) v;
+        known = record { inside = omega arith; symbol = omega arith };
+        marked = tt;
+        messages-are = refl;
+        verdicts-are = refl;
+        ends-are = refl;
       }
 
-  module _ (symbols marks ends : List ℕ) (r r′ : Reached) (at i k : ℕ) (w : Walk symbols marks ends r at i) (h : i < length ks) (e : k ≡ getD ks i 0) (two : 2 ≤ k) (b : Behind (drop (i + 1) ks)) where
-    abbrev t : Step
-    t = stepOf (r .found) (not (eqb i 0)) (r .f) k (nextOf (drop (i + 1) ks)) (r .start) s
+  module _ (lengths : Lengths longest ks) (symbols verdicts ends : List ℕ) (next : Next) (at i : ℕ) (w : Walk symbols verdicts ends next at i) (h : i < length ks) where
+    abbrev k : ℕ
+    k = getD ks i 0
 
-    here : drop i ks ≡ k ∷ drop (i + 1) ks
-    here = rw (add-one, e, drop-cons ks i 0 h)
+    abbrev marked : Bool
+    marked = not (eqb i 0)
 
-    split : IsReached (length s) t r′ → rest i r ≡ t .outcome ∷ rest (i + 1) r′
-    split n =
-        let z : not (eqb (i + 1) 0) ≡ true = ap not (ne-eqb (i + 1) 0 (λ x. omega arith)) in
-        rw (n .found, n .f, n .start, z, here) (going-step (not (eqb i 0)) (r .f) k (drop (i + 1) ks) (r .start) s (b .none-left) (r .found))
+    abbrev behind : List ℕ
+    behind = drop (i + 1) ks
 
-    room : at + k ≤ length symbols
+    -- the part of the buffer for the message, and the part of the layout behind the segment, as the walk lends them
+    abbrev part : List ℕ
+    part = take (at + k - at) (drop at symbols)
+
+    abbrev lent : List ℕ
+    lent = take (length ks - (i + 1)) (drop (i + 1) ks)
+
+    here : drop i ks ≡ k ∷ behind
+    here = rw (add-one, drop-cons ks i 0 h)
+
+    lent-is : lent ≡ behind
+    lent-is = take-all (length ks - (i + 1)) behind (simp length-drop (omega arith))
+
+    -- the message has room
+    pub walk-room : at + k ≤ length symbols
     unfolding sum
-    room = omega (arith, w .behind, ap sum here)
+    walk-room = omega (arith, w .behind, ap sum here)
 
-    pub walk-turn : IsReached (length s) t r′ → Known s (nextOf (drop (i + 1) ks)) r′ → (symbols′ : List ℕ) → symbols′ ≡ putAt symbols at (t .outcome .message) → Walk symbols′ (set marks i (r′ .mark)) (set ends i (r′ .start)) r′ (at + k) (i + 1)
-    unfolding sum joined endsFrom
-    walk-turn n follows symbols′ p =
-        let mark = r′ .mark in
-        let m = t .outcome .message in
-        let l = step-length (not (eqb i 0)) (r .f) k (nextOf (drop (i + 1) ks)) (r .start) s (r .found) (omega arith) in
-        let c = split n in
-        let long : length symbols′ ≡ length symbols = ap length p ∙ length-put symbols at m (omega (arith, l, room)) in
-        let front : take (at + k) symbols′ ≡ take at symbols ++ m = ap (take (at + k)) p ∙ ap (λ (x : ℕ). take (at + x) (putAt symbols at m)) (sym l) ∙ take-put symbols at m (omega (arith, l, room)) in
-        let verdict : mark ≡ markOf (t .outcome .verdict) = n .mark in
-        let end : r′ .start ≡ r .start + length (t .outcome .piece) = n .start ∙ step-end (not (eqb i 0)) (r .f) k (nextOf (drop (i + 1) ks)) (r .start) s (r .found) (w .start) (w .unfound) (omega (arith, n .inside, n .start)) in
-        let more-marks : take (i + 1) (set marks i mark) ≡ take i marks ++ mark ∷ [] = ap (λ (x : ℕ). take x (set marks i mark)) (add-one i) ∙ take-suc-set marks i mark (omega (arith, w .marks-room)) in
-        let more-ends : take (i + 1) (set ends i (r′ .start)) ≡ take i ends ++ r′ .start ∷ [] = ap (λ (x : ℕ). take x (set ends i (r′ .start))) (add-one i) ∙ take-suc-set ends i (r′ .start) (omega (arith, w .ends-room)) in
-        let next-ends : endsFrom (r .start) (rest i r) ≡ r′ .start ∷ endsFrom (r′ .start) (rest (i + 1) r′) = ap (endsFrom (r .start)) c ∙ ap (λ (x : ℕ). x ∷ endsFrom x (rest (i + 1) r′)) (sym end) in
-        record {
-          inside = omega arith;
-          behind = omega (arith, w .behind, ap sum here, long);
-          symbols-room = long ∙ w .symbols-room;
-          marks-room = simp length-set (w .marks-room);
-          ends-room = simp length-set (w .ends-room);
-          start = n .inside;
-          small = n .small;
-          unfound = λ x. n .start ∙ step-unfound (not (eqb i 0)) (r .f) k (nextOf (drop (i + 1) ks)) (r .start) s (r .found) (sym (n .found) ∙ x);
-          known = λ x. (omega arith, follows x);
-          messages-are = rw (front, append-assoc) (rw c at (w .messages-are));
-          marks-are = rw (more-marks, append-assoc, verdict) (rw c at (w .marks-are));
-          ends-are = rw (more-ends, append-assoc) (ap (λ (x : List ℕ). take i ends ++ x) (sym next-ends) ∙ w .ends-are);
-        }
+    part-is : length part ≡ k
+    part-is =
+        let q : at + k - at ≡ k = omega arith in
+        rw q (length-take-le k (drop at symbols) (simp length-drop (omega (arith, walk-room))))
 
-  -- the next message has room
-  pub walk-room : (symbols marks ends : List ℕ) (r : Reached) (at i : ℕ) → Walk symbols marks ends r at i → i < length ks → at + getD ks i 0 ≤ length symbols
-  unfolding sum
-  walk-room symbols marks ends r at i w h =
-      let d : drop i ks ≡ getD ks i 0 ∷ drop (suc i) ks = drop-cons ks i 0 h in
-      omega (arith, w .behind, ap sum d)
+    -- what the reading of the segment asks
+    pub walk-asks : Length (length part) × Lengths longest lent × Known s (length part ∷ lent) next
+    walk-asks = rw (part-is, lent-is) (lengths-at ks i lengths h, lengths-drop (i + 1) ks lengths, rw here at (w .known))
 
-  pub record Walked (symbols marks ends : List ℕ) : Type 0 where
+    -- the answer of the segment, and its message
+    module _ (out : List ℕ) (r : Answer) (read : IsStep (stepOf (startOf next) marked (length part) lent s) s lent out r) where
+      abbrev t : Step
+      t = stepOf (startOf next) marked k behind s
+
+      is-step : IsStep t s behind out r
+      is-step = rw (part-is, lent-is) at read
+
+      pub walk-numbered : Received s → Numbered (r .verdict)
+      walk-numbered received = rw (is-step .verdict) (step-numbered marked k behind s received (lengths-at ks i lengths h) (startOf next))
+
+      split : rest i next ≡ t .outcome ∷ rest (i + 1) (r .next)
+      split =
+          let z : not (eqb (i + 1) 0) ≡ true = ap not (ne-eqb (i + 1) 0 (λ x. omega arith)) in
+          rw (is-step .next, z, here) (going-step marked k behind s (startOf next))
+
+      end-is : place (r .next) ≡ place next + length (t .outcome .piece)
+      end-is =
+          let e : place (r .next) ≡ startPlace (t .next) (length s) = ap (λ (x : Option (ℕ × ℕ)). startPlace x (length s)) (is-step .next) in
+          e ∙ step-end marked k behind s (startOf next) (place-inside s (drop i ks) next (w .known)) (omega (arith, e, place-inside s behind (r .next) (is-step .known)))
+
+      pub walk-turn : (v e : ℕ) → v ≡ verdictNumber (r .verdict) → e ≡ placeOf (r .next) (length s) → Walk (take at symbols ++ (out ++ drop (at + k - at) (drop at symbols))) (set verdicts i v) (set ends i e) (r .next) (at + k) (i + 1)
+      unfolding sum joined endsFrom
+      walk-turn v e number end =
+          let m = t .outcome .message in
+          let l : length m ≡ k = step-length marked k behind s (startOf next) (omega (arith, lengths-at ks i lengths h .0)) in
+          let p = part-put at k symbols out m (is-step .message) l in
+          let long : length (putAt symbols at m) ≡ length symbols = length-put symbols at m (omega (arith, walk-room)) in
+          let front : take (at + k) (putAt symbols at m) ≡ take at symbols ++ m = ap (λ (x : ℕ). take (at + x) (putAt symbols at m)) (sym l) ∙ take-put symbols at m (omega (arith, walk-room)) in
+          let more-verdicts : take (i + 1) (set verdicts i v) ≡ take i verdicts ++ v ∷ [] = rw add-one (take-suc-set verdicts i v (omega (arith, w .verdicts-room))) in
+          let more-ends : take (i + 1) (set ends i e) ≡ take i ends ++ e ∷ [] = rw add-one (take-suc-set ends i e (omega (arith, w .ends-room))) in
+          let ends : e ≡ place next + length (t .outcome .piece) = end ∙ place-start (r .next) (length s) ∙ end-is in
+          let verdict : v ≡ verdictNumber (t .outcome .verdict) = number ∙ ap verdictNumber (is-step .verdict) in
+          rw p record {
+            inside = omega arith;
+            behind = omega (arith, w .behind, ap sum here, long);
+            symbols-room = long ∙ w .symbols-room;
+            verdicts-room = simp length-set (w .verdicts-room);
+            ends-room = simp length-set (w .ends-room);
+            known = is-step .known;
+            marked = rw (ne-eqb (i + 1) 0 (λ x. omega arith)) (marked-behind (r .next));
+            messages-are = rw (front, append-assoc) (rw split at (w .messages-are));
+            verdicts-are = rw (more-verdicts, append-assoc, verdict) (rw split at (w .verdicts-are));
+            ends-are = rw (more-ends, append-assoc, ends, end-is) (rw split at (w .ends-are));
+          }
+
+  -- the buffers of a walk hold the messages, the numbers of the verdicts and the ends
+  pub record Walked (symbols verdicts ends : List ℕ) : Type 0 where
     pub messages-are : symbols ≡ messagesOf (outcomes ks s)
-    pub marks-are : marks ≡ marksOf (outcomes ks s)
+    pub verdicts-are : verdicts ≡ numbersOf (outcomes ks s)
     pub ends-are : ends ≡ endsFrom 0 (outcomes ks s)
 
-  nothing-left : (found marked : Bool) (f p : ℕ) → going found marked f [] p s ≡ []
-  unfolding going reading
-  nothing-left true marked f p = refl
-  nothing-left false marked f p = refl
-
-  pub walk-end : (symbols marks ends : List ℕ) (r : Reached) (at i : ℕ) → Walk symbols marks ends r at i → length ks ≤ i → Walked symbols marks ends
+  pub walk-end : (symbols verdicts ends : List ℕ) (next : Next) (at i : ℕ) → Walk symbols verdicts ends next at i → length ks ≤ i → Walked symbols verdicts ends
   unfolding sum joined endsFrom
-  walk-end symbols marks ends r at i w h =
+  walk-end symbols verdicts ends next at i w h =
       let d : drop i ks ≡ [] = drop-of-length-le ks h in
-      let z : rest i r ≡ [] = rw d (nothing-left (r .found) (not (eqb i 0)) (r .f) (r .start)) in
+      let z : rest i next ≡ [] = rw d (nothing-left (startOf next) (not (eqb i 0)) s) in
       record {
         messages-are = sym (take-all at symbols (omega (arith, w .behind, ap sum d))) ∙ sym (append-nil (take at symbols)) ∙ (rw z at (w .messages-are));
-        marks-are = sym (take-all i marks (omega (arith, w .marks-room))) ∙ sym (append-nil (take i marks)) ∙ (rw z at (w .marks-are));
+        verdicts-are = sym (take-all i verdicts (omega (arith, w .verdicts-room))) ∙ sym (append-nil (take i verdicts)) ∙ (rw z at (w .verdicts-are));
         ends-are = sym (take-all i ends (omega (arith, w .ends-room))) ∙ sym (append-nil (take i ends)) ∙ (rw z at (w .ends-are));
       }

@@ -1,2 +1,1 @@
-pub mod StepsLaws
 pub mod Walks

@@ -52,7 +52,7 @@ pub fn order_test(k: u32, b: u32, other: bool) -> Checked
     Checked::Fine
 }
 
-// The number of a refusal.
+// The number of a refusal, 1 to 9.
 pub fn number_of(r: Refusal) -> u8
     ensures { λ n. ⌜ n ≡ R.numberOf r ⌝ }
 {
@@ -69,7 +69,7 @@ pub fn number_of(r: Refusal) -> u8
     }
 }
 
-// The place that a refusal names: the first foreign letter's, from 0.
+// The place that a refusal names: for 6 that of the first foreign letter, from 0; for any other 0.
 pub fn place_of(r: Refusal) -> usize
     ensures { λ n. ⌜ n ≡ R.placeOf r ⌝ }
 {

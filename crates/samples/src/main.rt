@@ -1,4 +1,5 @@
 // Runs the functions on the samples that are not proved as theorems; the file stdout has what they must give.
+use code::Counted;
 use code::Decoded;
 use code::Letter;
 use code::Wrote;
@@ -63,8 +64,8 @@ fn strand(letters: &[u8]) {
 
 // The number of syndrome symbols of k message symbols.
 fn width(k: usize) {
-    if 0 < k {
-        if k < 65536 {
+    if 2 <= k {
+        if k <= 256 {
             word(b"k");
             number(k as u64);
             word(b" t");
@@ -76,7 +77,7 @@ fn width(k: usize) {
 
 // The syndromes of both layers.
 fn syndromes(text: &[u8], message: &[u8]) {
-    if 0 < message.len() {
+    if 2 <= message.len() {
         if message.len() <= 256 {
             let sums = layers::sums(message);
             let s = layers::syndromes(message, sums.places);
@@ -98,14 +99,42 @@ fn written(k: u32, b: u32) {
     number(k as u64);
     word(b" B");
     number(b as u64);
-    match dnalm::write(k, b, lines::front(&message, b as usize), &mut out) {
+    match strand::write(k, b, lines::front(&message, b as usize), &mut out) {
         Wrote::Letters(n) => {
             word(b" letters");
             number(n as u64);
         }
         Wrote::Refused(r) => {
             word(b" refused");
-            number(dnalm::refusal_number(r) as u64);
+            number(refusal::number_of(r) as u64);
+        }
+    }
+    word(b"\n");
+}
+
+// What reading n letters A for k and B answers.
+fn read(k: u32, b: u32, n: usize) {
+    let letters = [b'A'; 2049];
+    let mut message = [0u8; 128];
+    let mut sheet = [0u8; 16];
+    word(b"read k");
+    number(k as u64);
+    word(b" B");
+    number(b as u64);
+    word(b" letters");
+    number(n as u64);
+    match reader::read(k, b, lines::front(&letters, n), &mut message, &mut sheet) {
+        Counted::Counts(clean, corrected, lost) => {
+            word(b" clean");
+            number(clean as u64);
+            word(b" corrected");
+            number(corrected as u64);
+            word(b" lost");
+            number(lost as u64);
+        }
+        Counted::Refused(r) => {
+            word(b" refused");
+            number(refusal::number_of(r) as u64);
         }
     }
     word(b"\n");
@@ -141,4 +170,6 @@ fn main() {
     written(65, 32);
     written(64, 128);
     written(64, 129);
+    read(64, 128, 2048);
+    read(64, 128, 2049);
 }

@@ -11,6 +11,7 @@ use native.Mathlib.Omega.{arith}
 use borrow.Author.Tests.{lt-ltb}
 use lib.ListN.{length, getD, take, drop, length-take, length-drop, drop-of-length-le}
 use lib.Seq.{drop-cons, drop-drop, getD-take, length-take-le}
+use Rattle.code.specs.Bounds.{longest, widest}
 use Rattle.code.specs.Layers.{width}
 use Rattle.code.specs.LayersLaws.{width-least}
 use Rattle.code.specs.Segment.{size}
@@ -23,19 +24,19 @@ use Rattle.tail.specs.declared.Tail.{Tail}
 use Rattle.tail.specs.Tails.{mark, IsTail, tailOf}
 use Rattle.tail.proofs.Tails.{tail-symbols, tail-length}
 use Rattle.standing.proofs.InPlace.{mark-fails, segment-seen}
-use Rattle.scan.specs.declared.Start.{Start}
-use Rattle.scan.specs.declared.Start.the-variants.{At, Nowhere}
-use Rattle.scan.specs.Scans.{firstClean, letterBefore, startAt}
+use Rattle.scan.specs.declared.Next.{Next}
+use Rattle.scan.specs.declared.Next.the-variants.{Clean, Nowhere}
+use Rattle.scan.specs.Scans.{firstClean, letterBefore, searched}
 use Rattle.scan.specs.ScansLaws.{letter-from}
 
 -- The starts that are left
 
 module _ (s : List ℕ) (p n k count : ℕ) (received : Bool) (f : ℕ) where
   -- the answer of the starts from the i-th on
-  unfoldable pub left : ℕ → Start
-  left i = startAt p (firstClean k (letterBefore received f (drop p s)) (drop p s) (above (drop i (take count (n ∷ pairs n 1 8)))))
+  unfoldable pub left : ℕ → Next
+  left i = searched received f k p (above (drop i (take count (n ∷ pairs n 1 8)))) s
 
-  pub left-whole : left 0 ≡ startAt p (firstClean k (letterBefore received f (drop p s)) (drop p s) (above (take count (n ∷ pairs n 1 8))))
+  pub left-whole : left 0 ≡ searched received f k p (above (take count (n ∷ pairs n 1 8))) s
   unfolding left
   left-whole = refl
 
@@ -69,9 +70,9 @@ module _ (s : List ℕ) (p n k count : ℕ) (received : Bool) (f : ℕ) where
     left-pass h e = rw (next, lt-ltb 0 o h, test h, e)
 
     -- a start where one stands
-    pub left-found : 0 < o → clean k (letterBefore received f s (p + o)) (drop (p + o) s) ≡ true → left i ≡ At (p + o)
+    pub left-found : 0 < o → clean k (letterBefore received f s (p + o)) (drop (p + o) s) ≡ true → left i ≡ Clean (p + o) (letterBefore received f s (p + o))
     unfolding left above firstClean
-    left-found h e = rw (next, lt-ltb 0 o h, test h, e)
+    left-found h e = rw (next, lt-ltb 0 o h, test h, e) (ap (Clean (p + o)) (letter-from received f s p o h))
 
 -- The clean test at a place, by what was looked at
 
@@ -93,12 +94,12 @@ module _ (k f : ℕ) (s : List ℕ) (at : ℕ) (found : Bool) (looked : found �
 -- the answer is that of the tail's symbols from the j-th on
 pub record Compared (s : List ℕ) (t : Tail) (behind : ℕ) (answer : Bool) (j : ℕ) : Type 0 where
   pub inside : j ≤ 4 + t .width
-  pub fits : t .width ≤ 16
+  pub fits : t .width ≤ widest
   pub within : behind + (4 + t .width) ≤ length s
   pub rest : starts (drop j (tailOf t)) (drop (behind + j) s) ≡ answer
 
 module _ (s : List ℕ) (t : Tail) (behind : ℕ) (answer : Bool) where
-  pub compared-begin : t .width ≤ 16 → behind + (4 + t .width) ≤ length s → answer ≡ starts (tailOf t) (drop behind s) → Compared s t behind answer 0
+  pub compared-begin : t .width ≤ widest → behind + (4 + t .width) ≤ length s → answer ≡ starts (tailOf t) (drop behind s) → Compared s t behind answer 0
   compared-begin a c e = record { inside = omega arith; fits = a; within = c; rest = block-begin s behind (tailOf t) ∙ sym e }
 
   module _ (j : ℕ) (known : Compared s t behind answer j) where
@@ -128,7 +129,7 @@ pub size-is : (k : ℕ) → size true k ≡ 2 + (k + (4 + width k))
 unfolding size
 size-is k = refl
 
-pub width-small : (k : ℕ) → k ≤ 256 → width k ≤ 16
+pub width-small : (k : ℕ) → k ≤ longest → width k ≤ widest
 width-small k h = width-least k .least 16 (omega arith)
 
 -- the message as a part of the strand

@@ -1,15 +1,21 @@
--- The search for a clean segment about a place.
+-- The search for a clean segment about a place, and where reading goes on.
 --   firstClean     the first start of a list where a clean segment stands
 --   letterBefore   the symbol before a start
---   startAt        a start as the answer of a call
-use mathlib.Core.Bool.{Bool, cond}
+--   searched       the answer of the search
+--   startOf        the start that an answer names
+--   startFrom      a start counted from a place
+--   placeOf        the place of the start that an answer names
+--   Known          what holds of the start that an answer names
+use mathlib.Core.Path.{_≡_}
+use mathlib.Core.Bool.{Bool, true, cond}
 use mathlib.Core.List.{List, [], _∷_}
 use mathlib.Core.Option.{Option, some, none}
 use Prim.Native.Nat.{ℕ, _+_, _-_}
 use lib.ListN.{getD, drop}
+use Rattle.code.specs.Bounds.{Start}
 use Rattle.code.specs.Reading.{clean}
-use Rattle.scan.specs.declared.Start.{Start}
-use Rattle.scan.specs.declared.Start.the-variants.{At, Nowhere}
+use Rattle.scan.specs.declared.Next.{Next}
+use Rattle.scan.specs.declared.Next.the-variants.{At, Clean, Nowhere}
 
 -- the first start o of a list where a clean segment of k message symbols stands, g o being the symbol before it
 unfoldable pub firstClean : ℕ → (ℕ → ℕ) → List ℕ → List ℕ → Option ℕ
@@ -20,7 +26,39 @@ firstClean k g raw (o ∷ os) = cond (clean k (g o) (drop o raw)) (some o) (firs
 unfoldable pub letterBefore : Bool → ℕ → List ℕ → ℕ → ℕ
 letterBefore received f s o = cond received (getD s (o - 1) 0) f
 
--- a start counted from p, or that there is none
-abbrev pub startAt : ℕ → Option ℕ → Start
-startAt p (some o) = At (p + o)
-startAt p none = Nowhere
+-- a start counted from p where a clean segment stands, g o being the symbol before it, or that there is none
+abbrev pub cleanFrom : ℕ → (ℕ → ℕ) → Option ℕ → Next
+cleanFrom p g (some o) = Clean (p + o) (g o)
+cleanFrom p g none = Nowhere
+
+-- the first of the starts os, counted from p, where a clean segment of k message symbols stands
+abbrev pub searched : Bool → ℕ → ℕ → ℕ → List ℕ → List ℕ → Next
+searched received f k p os s = let g = letterBefore received f (drop p s) in cleanFrom p g (firstClean k g (drop p s) os)
+
+-- the start that an answer names, and the symbol before it
+abbrev pub startOf : Next → Option (ℕ × ℕ)
+startOf (At p f) = some (p, f)
+startOf (Clean p f) = some (p, f)
+startOf Nowhere = none
+
+-- a start counted from p, g o being the symbol before it
+abbrev pub startFrom : ℕ → (ℕ → ℕ) → Option ℕ → Option (ℕ × ℕ)
+startFrom p g (some o) = some (p + o, g o)
+startFrom p g none = none
+
+-- the place of the start that an answer names, n where it names none
+abbrev pub placeOf : Next → ℕ → ℕ
+placeOf (At p f) n = p
+placeOf (Clean p f) n = p
+placeOf Nowhere n = n
+
+-- a clean segment stands at the front, of the first of the lengths ks
+abbrev pub FirstClean : List ℕ → ℕ → List ℕ → Type 0
+FirstClean [] f raw = ⊥
+FirstClean (k ∷ ks) f raw = clean k f raw ≡ true
+
+-- the start lies inside the received symbols s, and where the answer says so, a clean segment of the first of the lengths ks stands there
+abbrev pub Known : List ℕ → List ℕ → Next → Type 0
+Known s ks (At p f) = Start s p f
+Known s ks (Clean p f) = Start s p f × FirstClean ks f (drop p s)
+Known s ks Nowhere = Unit {0}

@@ -6,16 +6,29 @@ use tail::symbol_in;
 use tail::tail_of;
 ghost use mathlib.Core.Path.{_≡_};
 ghost use mathlib.Core.List.{_∷_};
-ghost use Prim.Native.Nat.{_+_, _<_, _≤_};
-ghost use lib.ListN.{length, take, drop};
-ghost use Rattle.code.specs.Symbols.{Below};
+ghost use Prim.Native.Nat.{_<_, _≤_};
+ghost use lib.ListN.{length, take};
+ghost use Rattle.code.specs.Refusals.{mostLetters};
+ghost use Rattle.code.specs.Bounds.{farthest, mostMoves, Length, Received};
 ghost use Rattle.code.specs.Strands.{above, pairs};
-ghost use Rattle.scan.specs.Scans.{firstClean, letterBefore, startAt};
+ghost use Rattle.scan.specs.Scans.{letterBefore, searched, placeOf};
 
-// Where a clean segment starts, or that there is none.
-pub enum Start {
-    At(usize),
+// Where the next segment starts, with the symbol before it; whether a clean one is known to stand there; or that no start is found.
+pub enum Next {
+    At(usize, u8),
+    Clean(usize, u8),
     Nowhere,
+}
+
+// The place where the next segment starts, n where no start is found.
+pub fn place_of(next: Next, n: usize) -> usize
+    ensures { λ r. ⌜ r ≡ placeOf next n ⌝ }
+{
+    match next {
+        Next::At(at, _) => at,
+        Next::Clean(at, _) => at,
+        Next::Nowhere => n,
+    }
 }
 
 // The symbol before a start: the received one, or f.
@@ -38,17 +51,17 @@ pub fn find_clean(
     count: usize,
     received: bool,
     f: u8,
-) -> Start
-    requires { ⌜ Below 4 (now s) ⌝ }
-    requires { ⌜ (p ≤ length (now s)) × (length (now s) ≤ 4096) × (8 ≤ n) × (n ≤ 4200) ⌝ }
-    requires { ⌜ (2 ≤ k) × (k ≤ 256) × (count ≤ 17) × (f < 4) ⌝ }
-    ensures { λ r. ⌜ r ≡ startAt p (firstClean k (letterBefore received f (drop p (now (s .entry)))) (drop p (now (s .entry))) (above (take count (n ∷ pairs n 1 8)))) ⌝ }
+) -> Next
+    requires { ⌜ Received (now s) ⌝ }
+    requires { ⌜ (p ≤ length (now s)) × (farthest ≤ n) × (n ≤ mostLetters) ⌝ }
+    requires { ⌜ Length k × (count ≤ mostMoves) × (f < 4) ⌝ }
+    ensures { λ r. ⌜ r ≡ searched received f k p (above (take count (n ∷ pairs n 1 8))) (now (s .entry)) ⌝ }
 {
     let size = size_of(true, k);
     let mut tried: usize = 0;
     'starts: loop {
         if count <= tried {
-            break Start::Nowhere;
+            break Next::Nowhere;
         }
         let offset = moved_by(n, tried);
         tried += 1;
@@ -73,6 +86,6 @@ pub fn find_clean(
             }
             j += 1;
         }
-        break Start::At(at);
+        break Next::Clean(at, before);
     }
 }

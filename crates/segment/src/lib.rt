@@ -7,6 +7,7 @@ use tail::tail_of;
 ghost use mathlib.Core.Path.{_≡_};
 ghost use Prim.Native.Nat.{_+_, _<_, _≤_};
 ghost use lib.ListN.{length};
+ghost use Rattle.code.specs.Bounds.{longest, widest, Length};
 ghost use Rattle.code.specs.Lists.{putAt};
 ghost use Rattle.code.specs.Layers.{pair, bits};
 ghost use Rattle.code.specs.Segment.{segment, lastOf, size};
@@ -43,7 +44,7 @@ fn put_pairs(high: usize, low: usize, t: usize, out: &mut [u8], at: usize)
 
 // The tail of a message at a place of `out`.
 fn put_tail(tail: Tail, out: &mut [u8], at: usize)
-    requires { ⌜ (tail .width ≤ 16) × (at + (4 + tail .width) ≤ length (now out)) ⌝ }
+    requires { ⌜ (tail .width ≤ widest) × (at + (4 + tail .width) ≤ length (now out)) ⌝ }
     ensures { λ _. ⌜ now (out .exit) ≡ putAt (now (out .entry)) at (tailOf tail) ⌝ }
 {
     let s = tail.separator;
@@ -54,7 +55,7 @@ fn put_tail(tail: Tail, out: &mut [u8], at: usize)
 // The segment of a message with its tail at a place of `out`; f is the last symbol of the segment before.
 pub fn put_segment(marked: bool, f: u8, message: &[u8], tail: Tail, out: &mut [u8], at: usize)
     requires { ⌜ IsTail (now message) tail ⌝ }
-    requires { ⌜ (f < 4) × (2 ≤ length (now message)) × (length (now message) ≤ 256) × (at + size marked (length (now message)) ≤ length (now out)) ⌝ }
+    requires { ⌜ (f < 4) × Length (length (now message)) × (at + size marked (length (now message)) ≤ length (now out)) ⌝ }
     ensures { λ _. ⌜ now (out .exit) ≡ putAt (now (out .entry)) at (segment marked f (now (message .entry))) ⌝ }
 {
     let start = put_marker(marked, f, message, out, at);
@@ -64,7 +65,7 @@ pub fn put_segment(marked: bool, f: u8, message: &[u8], tail: Tail, out: &mut [u
 
 // The segment of a message at a place of `out`; f is the last symbol of the segment before, and the answer that of this one.
 pub fn write_segment(marked: bool, f: u8, message: &[u8], out: &mut [u8], at: usize) -> u8
-    requires { ⌜ (f < 4) × (2 ≤ length (now message)) × (length (now message) ≤ 256) × (at + size marked (length (now message)) ≤ length (now out)) ⌝ }
+    requires { ⌜ (f < 4) × Length (length (now message)) × (at + size marked (length (now message)) ≤ length (now out)) ⌝ }
     ensures { λ r. ⌜ (now (out .exit) ≡ putAt (now (out .entry)) at (segment marked f (now (message .entry)))) × (r ≡ lastOf (now (message .entry))) ⌝ }
 {
     let tail = tail_of(message);
@@ -74,7 +75,7 @@ pub fn write_segment(marked: bool, f: u8, message: &[u8], out: &mut [u8], at: us
 
 // The length of a segment of k message symbols.
 pub fn size_of(marked: bool, k: usize) -> usize
-    requires { ⌜ (0 < k) × (k < 65536) ⌝ }
+    requires { ⌜ (0 < k) × (k ≤ longest) ⌝ }
     ensures { λ r. ⌜ r ≡ size marked k ⌝ }
 {
     let n = k + (4 + layers::width_of(k));

@@ -12,16 +12,16 @@ use native.Mathlib.Omega.{arith}
 use lib.Dec.{eqb}
 use lib.ListN.{length, getD, take, drop, length-drop}
 use lib.Seq.{drop-cons, drop-drop, getD-drop, getD-take, length-take-le}
+use Rattle.code.specs.Bounds.{longest, widest}
 use Rattle.code.specs.Layers.{pair, bits, width}
-use Rattle.code.specs.LayersLaws.{width-least}
 use Rattle.code.specs.Segment.{sep, marker, block, segment}
-use Rattle.code.specs.SegmentLaws.{width-two}
 use Rattle.code.specs.Reading.{starts, dataAt}
+use Rattle.code.specs.ReadingLaws.{and-true, and-false}
 use Rattle.compare.proofs.Standing.{block-past}
 use Rattle.tail.specs.declared.Tail.{Tail}
 use Rattle.tail.specs.Tails.{mark, syndromeIn, IsTail}
 use Rattle.tail.proofs.Steps.{bits-last}
-use Rattle.tail.proofs.Tails.{marked-block, length-pairs}
+use Rattle.tail.proofs.Tails.{marked-block, length-pairs, tail-width}
 
 -- a block in two parts
 pub starts-append : (a b s : List ℕ) → starts (a ++ b) s ≡ (starts a s && starts b (drop (length a) s))
@@ -40,14 +40,6 @@ unfolding starts
 starts-behind zero l t = refl
 starts-behind (suc k) [] t = refl
 starts-behind (suc k) (x ∷ l) t = rw (eq-eqb x x refl) (starts-behind k l t)
-
-and-true : (a : Bool) → (a && true) ≡ a
-and-true true = refl
-and-true false = refl
-
-and-false : (a : Bool) → (a && false) ≡ false
-and-false true = refl
-and-false false = refl
 
 -- too few symbols for a syndrome
 pub syndrome-past : (t : Tail) (s : List ℕ) (at : ℕ) → 0 < t .width → length s < at + t .width → starts (syndromeIn t) (drop at s) ≡ false
@@ -142,8 +134,7 @@ module _ (marked : Bool) (f p : ℕ) (s : List ℕ) where
           rw (parts, starts-append (mark marked f D) (take k D ++ t) (drop p s), mark-length marked D, starts-behind k D t, behind)
 
 -- a tail's width
-pub tail-room : (d k : ℕ) (s : List ℕ) (t : Tail) → 2 ≤ k → k ≤ 256 → d + k ≤ length s → IsTail (take k (drop d s)) t → (0 < t .width) × (t .width ≤ 16)
+pub tail-room : (d k : ℕ) (s : List ℕ) (t : Tail) → 2 ≤ k → k ≤ longest → d + k ≤ length s → IsTail (take k (drop d s)) t → (0 < t .width) × (t .width ≤ widest)
 tail-room d k s t two most room tail =
     let n : length (take k (drop d s)) ≡ k = length-take-le k (drop d s) (simp length-drop (omega arith)) in
-    let w : t .width ≡ width k = tail .width ∙ ap width n in
-    (omega (arith, width-two k two), omega (arith, width-least k .least 16 (omega arith)))
+    tail-width (take k (drop d s)) t tail (omega (arith, n), omega (arith, n))

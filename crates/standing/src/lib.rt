@@ -6,12 +6,13 @@ use tail::sep_of;
 ghost use mathlib.Core.Path.{_≡_};
 ghost use Prim.Native.Nat.{_+_, _<_, _≤_};
 ghost use lib.ListN.{length, drop};
+ghost use Rattle.code.specs.Bounds.{widest, reach};
 ghost use Rattle.code.specs.Reading.{starts, whole, dataAt};
 ghost use Rattle.tail.specs.Tails.{mark, syndromeIn};
 
 // The syndrome symbols of a tail stand at the place.
 pub fn syndrome_at(tail: Tail, s: &[u8], at: usize) -> bool
-    requires { ⌜ (at < 65536) × (0 < tail .width) × (tail .width ≤ 16) ⌝ }
+    requires { ⌜ (at < reach) × (0 < tail .width) × (tail .width ≤ widest) ⌝ }
     ensures { λ r. ⌜ r ≡ starts (syndromeIn tail) (drop at (now (s .entry))) ⌝ }
 {
     let mut i = tail.width;
@@ -43,7 +44,7 @@ pub fn data_at(marked: bool) -> usize
 
 // Step 1: the marker of the segment at p is whole.
 pub fn is_whole(s: &[u8], p: usize, marked: bool) -> bool
-    requires { ⌜ p < 65536 ⌝ }
+    requires { ⌜ p < reach ⌝ }
     ensures { λ r. ⌜ r ≡ whole marked (drop p (now (s .entry))) ⌝ }
 {
     if marked {
@@ -54,7 +55,7 @@ pub fn is_whole(s: &[u8], p: usize, marked: bool) -> bool
 
 // The marker of the message behind it stands at p, where a segment has one.
 pub fn marker_stands(s: &[u8], p: usize, marked: bool, f: u8) -> bool
-    requires { ⌜ (f < 4) × (p + dataAt marked + 2 ≤ length (now s)) × (length (now s) ≤ 4096) ⌝ }
+    requires { ⌜ (f < 4) × (p + dataAt marked + 2 ≤ length (now s)) × (p < reach) ⌝ }
     ensures { λ r. ⌜ r ≡ starts (mark marked f (drop (dataAt marked) (drop p (now (s .entry))))) (drop p (now (s .entry))) ⌝ }
 {
     if marked {

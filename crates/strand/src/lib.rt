@@ -1,18 +1,19 @@
-// The writer: a message within the limits as a strand.
+// The writing call: a message within the limits as a strand.
 use code::Checked;
 use code::Refusal;
 use code::Wrote;
 use layout::extent_of;
 use layout::write_equal;
 ghost use mathlib.Core.Path.{_≡_};
-ghost use mathlib.Core.Bool.{false};
-ghost use lib.ListN.{length};
-ghost use Rattle.code.specs.Layout.{extent, layoutOf};
-ghost use Rattle.code.specs.Writing.{strandOf, writeTest, wroteOf, bufferOf};
+ghost use Rattle.code.specs.Writing.{writeCall};
 
-// The strand that carries a message of B bytes in segments of k symbols, at the front of `out`; or why it is turned down.
+// Writes a strand: `message`, of B = `b` bytes, in segments of k = `k` symbols, as the letters A, T, C and G at the front of
+// `out`. Answers the number of letters, l × (k + t + 6) − 2 for l segments with t syndrome symbols each.
+// Turned down, in this order: 1 k is not 2 to 64; 2 B is not 1 to 128, or `message` has not B bytes; 3 4B is not a multiple of k,
+// or makes more than 64 segments; 5 `out` has fewer bytes than the strand has letters.
+// The bytes of `out` behind the strand are untouched; a refusal leaves all of `out` as it was.
 pub fn write(k: u32, b: u32, message: &[u8], out: &mut [u8]) -> Wrote
-    ensures { λ r. ⌜ (r ≡ wroteOf (writeTest k b (now (message .entry)) (length (now (out .entry)))) (extent false (layoutOf k b))) × (now (out .exit) ≡ bufferOf (writeTest k b (now (message .entry)) (length (now (out .entry)))) (strandOf (layoutOf k b) (now (message .entry))) (now (out .entry))) ⌝ }
+    ensures { λ r. ⌜ (r, now (out .exit)) ≡ writeCall k b (now (message .entry)) (now (out .entry)) ⌝ }
 {
     let other = message.len() != b as usize;
     let order = refusal::order_test(k, b, other);

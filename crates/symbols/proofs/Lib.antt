@@ -1,3 +1,3 @@
-pub mod Codes
+pub mod Bits
 pub mod Steps
 pub mod Spelled

@@ -13,7 +13,7 @@ use Rattle.code.specs.declared.Letter.the-variants.{Symbol, Foreign}
 use Rattle.code.specs.declared.Decoded.the-variants as D
 use Rattle.code.specs.Lists.{drop-next, drop-inside}
 use Rattle.code.specs.Symbols.{symbolOf, legible, decodedFrom, decoded}
-use Rattle.symbols.specs.Codes.{isLetter, allLetters}
+use Rattle.symbols.specs.Letters.{isLetter, allLetters}
 
 -- the first i bytes of cs are letters
 pub record Letters (cs : List ℕ) (i : ℕ) : Type 0 where

@@ -1,31 +1,46 @@
 // Letters and symbols.
 ghost use mathlib.Core.Path.{_≡_};
 ghost use mathlib.Core.Bool.{true, _&&_};
-ghost use mathlib.Core.List.{_++_};
 ghost use Prim.Native.Nat.{_<_, _≤_};
-ghost use lib.ListN.{length, drop};
+ghost use lib.ListN.{length};
 ghost use Rattle.code.specs.Symbols.{Below, letterOf, symbolOf, letters, legible, decoded};
+ghost use Rattle.code.specs.Writing.{overFront};
 ghost use Rattle.code.specs.declared.Decoded.the-variants.{Whole};
-ghost use Rattle.symbols.specs.Codes.{codeOf, isLetter, allLetters, bitsOf};
+ghost use Rattle.code.specs.declared.Letter.the-variants.{Symbol};
+ghost use Rattle.symbols.specs.Letters.{isLetter, allLetters};
 use code::Decoded;
 use code::Letter;
 
-mod table;
-
-// The symbol of a byte, or 4, from the table.
-fn code_of(letter: u8) -> u8
-    ensures { λ r. ⌜ r ≡ codeOf (symbolOf letter) ⌝ }
+// Whether a byte is a letter.
+fn is_letter(c: u8) -> bool
+    ensures { λ r. ⌜ r ≡ isLetter c ⌝ }
 {
-    table::CODES[letter as usize]
+    if c == 65 {
+        return true;
+    }
+    if c == 84 {
+        return true;
+    }
+    if c == 67 {
+        return true;
+    }
+    c == 71
+}
+
+// The symbol of a letter: its second lowest bit is the high one, its third lowest the low one.
+fn bits_of(c: u8) -> u8
+    requires { ⌜ isLetter c ≡ true ⌝ }
+    ensures { λ r. ⌜ symbolOf c ≡ Symbol r ⌝ }
+{
+    (c & 2) | ((c >> 2) & 1)
 }
 
 // What a byte is: a letter with its symbol, or no letter.
 pub fn symbol_of(letter: u8) -> Letter
     ensures { λ r. ⌜ r ≡ symbolOf letter ⌝ }
 {
-    let s = code_of(letter);
-    if s < 4 {
-        return Letter::Symbol(s);
+    if is_letter(letter) {
+        return Letter::Symbol(bits_of(letter));
     }
     Letter::Foreign
 }
@@ -48,22 +63,6 @@ pub fn spell(symbols: &mut [u8])
         symbols[i] = letter_of(symbols[i]);
         i += 1;
     }
-}
-
-// Whether a byte is a letter.
-fn is_letter(c: u8) -> bool
-    ensures { λ r. ⌜ r ≡ isLetter c ⌝ }
-{
-    if c == 65 {
-        return true;
-    }
-    if c == 84 {
-        return true;
-    }
-    if c == 67 {
-        return true;
-    }
-    c == 71
 }
 
 // Both hold.
@@ -89,18 +88,11 @@ fn all_letters(letters: &[u8]) -> bool
     all
 }
 
-// The symbol of a letter: its second lowest bit is the high one, its third lowest the low one.
-fn bits_of(c: u8) -> u8
-    ensures { λ r. ⌜ r ≡ bitsOf c ⌝ }
-{
-    (c & 2) + ((c >> 2) & 1)
-}
-
 // The symbols of letters throughout, at the front of `out`.
 fn decode_letters(letters: &[u8], out: &mut [u8])
     requires { ⌜ allLetters (now letters) ≡ true ⌝ }
     requires { ⌜ length (now letters) ≤ length (now out) ⌝ }
-    ensures { λ _. ⌜ (Whole ≡ decoded (now (letters .entry))) × (now (out .exit) ≡ legible (now (letters .entry)) ++ drop (length (legible (now (letters .entry)))) (now (out .entry))) ⌝ }
+    ensures { λ _. ⌜ (Whole ≡ decoded (now (letters .entry))) × (now (out .exit) ≡ overFront (legible (now (letters .entry))) (now (out .entry))) ⌝ }
 {
     let mut i = 0;
     while i < letters.len() {
@@ -112,22 +104,20 @@ fn decode_letters(letters: &[u8], out: &mut [u8])
 // The symbols of letters at the front of `out`, up to the first byte that is no letter.
 pub fn decode(letters: &[u8], out: &mut [u8]) -> Decoded
     requires { ⌜ length (now letters) ≤ length (now out) ⌝ }
-    ensures { λ r. ⌜ (r ≡ decoded (now (letters .entry))) × (now (out .exit) ≡ legible (now (letters .entry)) ++ drop (length (legible (now (letters .entry)))) (now (out .entry))) ⌝ }
+    ensures { λ r. ⌜ (r ≡ decoded (now (letters .entry))) × (now (out .exit) ≡ overFront (legible (now (letters .entry))) (now (out .entry))) ⌝ }
 {
     if all_letters(letters) {
         decode_letters(letters, out);
         return Decoded::Whole;
     }
-    let codes = table::CODES;
     let mut i = 0;
     while i < letters.len() {
-        let s = codes[letters[i] as usize];
-        let next = i + 1;
-        if s == 4 {
+        let letter = symbol_of(letters[i]);
+        let Letter::Symbol(s) = letter else {
             return Decoded::Foreign(i);
-        }
+        };
         out[i] = s;
-        i = next;
+        i += 1;
     }
     Decoded::Whole
 }

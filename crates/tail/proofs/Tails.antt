@@ -3,6 +3,7 @@
 --   tail-symbols   a message and its tail are the block
 --   tail-below     a tail's symbols are symbols
 --   tail-last      the last symbol of a segment
+--   tail-width     the width of a tail
 --   marked-block   a segment is its marker and its block
 use mathlib.Core.Path.{_≡_, refl, sym, ap, _∙_}
 use mathlib.Core.Bool.{Bool, true, false}
@@ -11,8 +12,9 @@ use Prim.Native.Nat.{ℕ, zero, suc, _+_, _-_, _*_, _<_, _≤_}
 use native.Mathlib.Omega.{arith}
 use lib.ListN.{length, getD}
 use Rattle.code.specs.Symbols.{Below}
+use Rattle.code.specs.Bounds.{widest, Length}
 use Rattle.code.specs.Layers.{bit, digit, layer, syndrome, number, pair, bits, width}
-use Rattle.code.specs.LayersLaws.{length-layer, length-bits, length-pair, bits-number, pair-layers}
+use Rattle.code.specs.LayersLaws.{length-layer, length-bits, length-pair, bits-number, pair-layers, width-least}
 use Rattle.code.specs.Segment.{check, sep, separator, syndromeOf, block, segment, lastOf}
 use Rattle.code.specs.SegmentLaws.{check-below, separator-apart, syndrome-symbols-below, width-two}
 use Rattle.layers.specs.declared.Layers.{Layers}
@@ -61,6 +63,10 @@ module _ (m : List ℕ) (t : Tail) (e : IsTail m t) where
       let w = width-two (length m) h in
       let n : 3 + t .width ≡ suc (suc (suc (suc (t .width - 1)))) = omega (arith, e .width) in
       rw n (rw (e .symbols, e .width))
+
+-- the width of a tail
+pub tail-width : (m : List ℕ) (t : Tail) → IsTail m t → Length (length m) → (0 < t .width) × (t .width ≤ widest)
+tail-width m t e h = (omega (arith, e .width, width-two (length m) (h .0)), omega (arith, e .width, width-least (length m) .least 16 (omega (arith, h .1))))
 
 -- a segment is its marker and its block
 pub marked-block : (marked : Bool) (f : ℕ) (m : List ℕ) → mark marked f m ++ block m ≡ segment marked f m

@@ -3,6 +3,7 @@ use layers::Summed;
 ghost use mathlib.Core.Path.{_≡_};
 ghost use Prim.Native.Nat.{_+_, _-_, _*_, _<_, _≤_};
 ghost use lib.ListN.{length, getD};
+ghost use Rattle.code.specs.Bounds.{longest, widest, Length};
 ghost use Rattle.code.specs.Layers.{bit, digit};
 ghost use Rattle.code.specs.Segment.{check, either, sep, syndromeOf};
 ghost use Rattle.layers.specs.Answers.{sumsOf};
@@ -38,7 +39,7 @@ pub fn sep_of(a: u8, b: u8, c: u8) -> u8
 
 // The check of a message: the sum of its symbols modulo 4.
 pub fn check_of(message: &[u8]) -> u8
-    requires { ⌜ length (now message) ≤ 256 ⌝ }
+    requires { ⌜ length (now message) ≤ longest ⌝ }
     ensures { λ r. ⌜ r ≡ check (now (message .entry)) ⌝ }
 {
     let mut sum: usize = 0;
@@ -52,7 +53,7 @@ pub fn check_of(message: &[u8]) -> u8
 
 // The symbol of two numbers' bits at place i, from the last.
 fn symbol_at(high: usize, low: usize, i: usize) -> u8
-    requires { ⌜ i < 16 ⌝ }
+    requires { ⌜ i < widest ⌝ }
     ensures { λ r. ⌜ r ≡ 2 * digit (bit i high) + digit (bit i low) ⌝ }
 {
     (2 * ((high >> i) & 1) + ((low >> i) & 1)) as u8
@@ -60,7 +61,7 @@ fn symbol_at(high: usize, low: usize, i: usize) -> u8
 
 // The symbol at place i of a tail.
 pub fn symbol_in(tail: Tail, i: usize) -> u8
-    requires { ⌜ (i < 4 + tail .width) × (tail .width ≤ 16) ⌝ }
+    requires { ⌜ (i < 4 + tail .width) × (tail .width ≤ widest) ⌝ }
     ensures { λ r. ⌜ r ≡ getD (tailOf tail) i 0 ⌝ }
 {
     if i == 0 {
@@ -74,7 +75,7 @@ pub fn symbol_in(tail: Tail, i: usize) -> u8
 
 // What follows a message whose check and sums of places are known.
 pub fn tail_with(message: &[u8], sums: Summed) -> Tail
-    requires { ⌜ (2 ≤ length (now message)) × (length (now message) ≤ 256) × (sums ≡ sumsOf (now message)) ⌝ }
+    requires { ⌜ Length (length (now message)) × (sums ≡ sumsOf (now message)) ⌝ }
     ensures { λ r. ⌜ IsTail (now (message .entry)) r ⌝ }
 {
     let check = sums.check;
@@ -94,7 +95,7 @@ pub fn tail_with(message: &[u8], sums: Summed) -> Tail
 
 // What follows a message.
 pub fn tail_of(message: &[u8]) -> Tail
-    requires { ⌜ (2 ≤ length (now message)) × (length (now message) ≤ 256) ⌝ }
+    requires { ⌜ Length (length (now message)) ⌝ }
     ensures { λ r. ⌜ IsTail (now (message .entry)) r ⌝ }
 {
     let sums = layers::sums(message);
@@ -103,7 +104,7 @@ pub fn tail_of(message: &[u8]) -> Tail
 
 // What follows a message whose syndrome symbols are known.
 pub fn tail_given(message: &[u8], written: &[u8]) -> Tail
-    requires { ⌜ (2 ≤ length (now message)) × (length (now message) ≤ 256) × (now written ≡ syndromeOf (now message)) ⌝ }
+    requires { ⌜ Length (length (now message)) × (now written ≡ syndromeOf (now message)) ⌝ }
     ensures { λ r. ⌜ IsTail (now (message .entry)) r ⌝ }
 {
     let check = check_of(message);
@@ -120,7 +121,7 @@ pub fn tail_given(message: &[u8], written: &[u8]) -> Tail
 
 // The last syndrome symbol of a tail.
 pub fn last_of(tail: Tail) -> u8
-    requires { ⌜ (0 < tail .width) × (tail .width ≤ 16) ⌝ }
+    requires { ⌜ (0 < tail .width) × (tail .width ≤ widest) ⌝ }
     ensures { λ r. ⌜ r ≡ getD (tailOf tail) (3 + tail .width) 0 ⌝ }
 {
     symbol_at(tail.high, tail.low, 0)

@@ -1,4 +1,4 @@
-// Adding the counts of one reading to a tally.
+// The tally call: the counts of one reading added to a tally.
 ghost use mathlib.Core.Path.{_≡_};
 ghost use Rattle.code.specs.Tallies.{passes, full, tallied};
 use code::Refusal;
@@ -28,7 +28,8 @@ fn is_full(t: Tally, clean: u32, corrected: u32, lost: u32) -> bool
     would_pass(t.lost, lost)
 }
 
-// The tally with one strand more and the counts added, or a refusal that changes nothing.
+// Adds the three counts of one reading to a tally, and one strand, and answers the new tally.
+// Turned down: 7 one of the tally's four counts would pass 4,294,967,295; then none of them is changed.
 pub fn add(t: Tally, clean: u32, corrected: u32, lost: u32) -> Tallied
     ensures { λ r. ⌜ r ≡ tallied t clean corrected lost ⌝ }
 {

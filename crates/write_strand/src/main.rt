@@ -8,7 +8,7 @@ use hex::Hex;
 // The strand of a message for k and B.
 fn print_strand(k: u32, b: u32, message: &[u8]) {
     let mut strand = [0u8; 2048];
-    match dnalm::write(k, b, message, &mut strand) {
+    match strand::write(k, b, message, &mut strand) {
         Wrote::Letters(n) => {
             word(lines::front(&strand, n));
             word(b"\n");

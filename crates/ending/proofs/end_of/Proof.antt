@@ -1,94 +1,102 @@
-use mathlib.Core.Path.{subst, _∙_}
-use mathlib.Core.Bool.{false≢true}
-use Prim.Native.Nat.{ℕ}
-use borrow.Author.Needs.{needs}
+use mathlib.Core.Path.{sym, ap, _∙_}
+use Prim.Native.Nat.{ℕ, _+_}
 use native.Mathlib.Omega.{arith}
-use lib.ListN.{length, take}
-use mathlib.Core.List.{_∷_}
-use Rattle.code.specs.LayersLaws.{width-least}
-use Rattle.code.specs.SegmentLaws.{width-two, last-below}
-use Rattle.code.specs.Strands.{above, pairs}
-use Rattle.tail.proofs.Tails.{tail-last}
-use Rattle.scan.proofs.Starts.{size-room}
-use Rattle.ending.specs.Followers.{CleanAt}
-use Rattle.ending.proofs.Ending.{settled-below, end-last, end-settled, end-around, found-clean}
+use borrow.Author.Needs.{needs}
+use lib.ListN.{length, drop}
+use Rattle.code.specs.Reading.{moved, dataAt}
+use Rattle.tail.proofs.Tails.{tail-last, tail-width}
+use Rattle.message.specs.Answers.{shiftOf}
+use Rattle.message.proofs.Separators.{found-moved, found-missing}
+use Rattle.ending.proofs.Ending.{settled-none, settled-by, end-last, end-settled}
 use Rattle.ending.proofs.end_of.Statement.{statement}
 use Rattle.ending.proofs.end_of.Tie as tie
 
+last-of-requires : tie.Need-last-of-requires
+last-of-requires c κs = let b = c .before .before .before .before in tail-width (b .args .message .now) (b .args .tail) (b .pre .0 .1) (b .pre .1 .0 .1)
+
 returns : tie.Need-returns
 returns c =
-    let b = c .before .before .before in
-    let a = b .args in
-    (end-last (a .s .now) (a .message .now) (a .p) (a .marked) (a .j) (b .pre .1 .1 .1 .2) (a .next) (search needs) (search needs), λ q. absurd (false≢true q))
-
-settles-requires : tie.Need-settles-requires
-settles-requires c κs = search needs
-
-behind-separator-requires : tie.Need-behind-separator-requires
-behind-separator-requires c κs =
     let b = c .before .before .before .before .before in
     let a = b .args in
-    let g = c .before .settles in
-    (settled-below (a .s .now) (a .message .now) (a .p) (a .marked) (a .j) (b .pre .1 .1 .1 .2) (g .result) (g .ensures) (c .if2 .taken), search needs, search needs)
+    let h = b .pre .1 .0 in
+    end-last (a .s .now) (a .message .now) (a .p) (a .marked) (h .1 .0) (h .0) (a .rest .now) (c .before .if1 .taken) (c .last-of .result) (c .last-of .ensures ∙ tail-last (a .message .now) (a .tail) (b .pre .0 .1) (h .1 .0))
 
-add-t14 : tie.Need-add-t14
-add-t14 c =
-    let b = c .before .before .before .before .before .before .before in
-    let w = width-least (length (b .args .message .now)) .least 16 (omega arith) in
-    omega (arith, b .pre .1 .0 .width, w, c .before .behind-separator .ensures .1)
+add-after-separator : tie.Need-add-after-separator
+add-after-separator c =
+    let b = c .before .before .before .before .before .before .before .before in
+    omega (arith, b .pre .1 .0 .0, b .pre .0 .0 .short, c .data-at .ensures .1)
+
+after-separator-requires : tie.Need-after-separator-requires
+after-separator-requires c κs =
+    let b = c .before .before .before .before .before .before .before .before in
+    let j = c .before .before .found .given .0 .0 in
+    let f = found-moved (length (b .args .message .now)) (drop (dataAt (b .args .marked)) (drop (b .args .p) (b .args .s .now))) (b .args .found) (b .pre .1 .1) j (c .before .before .found .given .1) in
+    (f .number, omega (arith, b .pre .1 .0 .0, b .pre .0 .0 .short, c .data-at .ensures .1), b .pre .1 .0 .1)
+
+syndrome-at-requires : tie.Need-syndrome-at-requires
+syndrome-at-requires c κs =
+    let b = c .before .before .before .before .before .before .before .before .before in
+    let w = tail-width (b .args .message .now) (b .args .tail) (b .pre .0 .1) (b .pre .1 .0 .1) in
+    (omega (arith, c .after-separator .ensures .1), w .0, w .1)
+
+add-t19 : tie.Need-add-t19
+add-t19 c =
+    let b = c .before .before .before .before .before .before .before .before .before .before .before .before in
+    let w = tail-width (b .args .message .now) (b .args .tail) (b .pre .0 .1) (b .pre .1 .0 .1) in
+    omega (arith, w .1, c .before .before .before .after-separator .ensures .1)
+
+last-of-requires-2 : tie.Need-last-of-requires-2
+last-of-requires-2 c κs = let b = c .before .before .before .before .before .before .before .before .before .before .before .before in tail-width (b .args .message .now) (b .args .tail) (b .pre .0 .1) (b .pre .1 .0 .1)
 
 returns-2 : tie.Need-returns-2
 returns-2 c =
-    let b = c .before .before .before .before .before .before .before in
+    let b = c .before .before .before .before .before .before .before .before .before .before .before .before .before in
     let a = b .args in
-    let g = c .before .before .before .settles in
-    let n = c .before .behind-separator in
-    (end-settled (a .s .now) (a .message .now) (a .p) (a .marked) (a .j) (b .pre .1 .1 .1 .2) (a .next) (search needs) (g .result) (g .ensures) (c .before .before .if2 .taken) (n .result) (a .tail .width) (n .ensures .0) (b .pre .1 .0 .width), λ q. absurd (false≢true q))
+    let h = b .pre .1 .0 in
+    let j = c .before .before .before .before .before .before .before .found .given .0 .0 in
+    let f = found-moved (length (a .message .now)) (drop (dataAt (a .marked)) (drop (a .p) (a .s .now))) (a .found) (b .pre .1 .1) j (c .before .before .before .before .before .before .before .found .given .1) in
+    let n = c .before .before .before .before .after-separator in
+    let at = n .ensures .0 ∙ ap (λ (d : ℕ). a .p + d + (moved (shiftOf j) (length (a .message .now) + 1) + 3)) (c .before .before .before .before .before .data-at .ensures .0) in
+    let y = c .before .before .before .syndrome-at in
+    let seen = settled-by (a .s .now) (a .message .now) (a .p) (a .marked) (h .1 .0) (h .0) j (f .shift) (a .tail) (b .pre .0 .1) (n .result) at (y .result) (y .ensures) in
+    end-settled (a .s .now) (a .message .now) (a .p) (a .marked) (h .1 .0) (h .0) (a .rest .now) (omega (arith, c .before .before .before .before .before .before .before .before .before .if1 .left)) j (f .shift) (sym seen ∙ c .before .before .if2 .taken) (n .result) (a .tail .width) (c .last-of2 .result) at (b .pre .0 .1 .width) (c .last-of2 .ensures ∙ tail-last (a .message .now) (a .tail) (b .pre .0 .1) (h .1 .0))
 
-size-of-requires : tie.Need-size-of-requires
-size-of-requires c κs = search needs
+end-at-clean-requires : tie.Need-end-at-clean-requires
+end-at-clean-requires c κs =
+    let b = c .before .before .before .before .before .before .before .before .before .before .before in
+    let a = b .args in
+    let h = b .pre .1 .0 in
+    let j = c .before .before .before .before .before .found .given .0 .0 in
+    let f = found-moved (length (a .message .now)) (drop (dataAt (a .marked)) (drop (a .p) (a .s .now))) (a .found) (b .pre .1 .1) j (c .before .before .before .before .before .found .given .1) in
+    let n = c .before .before .after-separator in
+    let at = n .ensures .0 ∙ ap (λ (d : ℕ). a .p + d + (moved (shiftOf j) (length (a .message .now) + 1) + 3)) (c .before .before .before .data-at .ensures .0) in
+    let y = c .before .syndrome-at in
+    let seen = settled-by (a .s .now) (a .message .now) (a .p) (a .marked) (h .1 .0) (h .0) j (f .shift) (a .tail) (b .pre .0 .1) (n .result) at (y .result) (y .ensures) in
+    (b .pre .0, ((h .0, h .1, omega (arith, c .before .before .before .before .before .before .before .if1 .left)), sym seen ∙ c .if2 .left))
 
-last-of-requires : tie.Need-last-of-requires
-last-of-requires c κs =
+end-at-clean-requires-2 : tie.Need-end-at-clean-requires-2
+end-at-clean-requires-2 c κs =
     let b = c .before .before .before .before .before .before in
-    let n = length (b .args .message .now) in
-    let e = b .pre .1 .0 in
-    (omega (arith, e .width, width-two n (omega arith)), omega (arith, e .width, width-least n .least 16 (omega arith)))
-
-find-clean-requires : tie.Need-find-clean-requires
-find-clean-requires c κs =
-    let b = c .before .before .before .before .before .before .before in
     let a = b .args in
-    let r = size-room (a .marked) (length (a .message .now)) (omega arith) (omega arith) in
-    let n = c .before .size-of .ensures in
-    let l = c .last-of .ensures ∙ tail-last (a .message .now) (a .tail) (b .pre .1 .0) (search needs) in
-    (b .pre .0, ((search needs, search needs, omega (arith, r .0, n), omega (arith, r .1, n)), (omega (arith), search needs, search needs, omega (arith, l, last-below (a .message .now)))))
-
-returns-3 : tie.Need-returns-3
-returns-3 c =
-    let b = c .before .before .before .before .before .before .before .before in
-    let a = b .args in
-    let h = b .pre .1 in
-    let g = c .before .before .before .before .settles in
-    let n = c .before .before .size-of in
-    let l = c .before .last-of in
-    let e = c .find-clean in
-    let r = size-room (a .marked) (length (a .message .now)) (omega arith) (omega arith) in
-    let last = l .ensures ∙ tail-last (a .message .now) (a .tail) (h .0) (search needs) in (
-      end-around (a .s .now) (a .message .now) (a .p) (a .marked) (a .j) (h .1 .1 .2) (a .next) (search needs) (g .result) (g .ensures) (c .before .before .before .if2 .left) (n .result) (l .result) (e .result) (n .ensures) last (omega (arith, r .0, n .ensures)) (e .ensures),
-      λ q. subst (λ (f : ℕ). CleanAt (a .next) f (a .s .now) (e .result)) last (found-clean (a .p) (a .next) (l .result) (a .s .now) (above (take 3 (n .result ∷ pairs (n .result) 1 8))) (e .result) (e .ensures)),
-    )
+    let h = b .pre .1 .0 in
+    (b .pre .0, ((h .0, h .1, omega (arith, c .before .before .if1 .left)), settled-none (a .s .now) (a .message .now) (a .p) (a .marked) (h .1 .0) (h .0) (found-missing (length (a .message .now)) (drop (dataAt (a .marked)) (drop (a .p) (a .s .now))) (a .found) (b .pre .1 .1) (c .enum-told .given .1))))
 
 pub end-of-spec : {M : Type 1} → statement M
 end-of-spec =
     tie.close
     (tie.spec
-    returns
-    settles-requires
-    behind-separator-requires
-    add-t14
-    returns-2
-    size-of-requires
     last-of-requires
-    find-clean-requires
-    returns-3)
+    returns
+    (λ c. search needs)
+    (λ c κs. search needs)
+    add-after-separator
+    after-separator-requires
+    syndrome-at-requires
+    add-t19
+    last-of-requires-2
+    returns-2
+    end-at-clean-requires
+    (λ c. search needs)
+    end-at-clean-requires-2
+    (λ c. search needs)
+    (λ c. search needs))

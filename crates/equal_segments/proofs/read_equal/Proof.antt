@@ -1,53 +1,69 @@
-use mathlib.Core.Path.{sym, ap, _∙_}
-use mathlib.Core.List.{List}
+use mathlib.Core.Path.{sym, ap, subst, _∙_}
+use mathlib.Core.List.{List, map}
 use Prim.Native.Nat.{ℕ}
 use native.Mathlib.Omega.{arith}
 use borrow.Author.Needs.{needs}
-use Rattle.code.specs.Strands.{outcomes, messagesOf, marksOf}
+use lib.ListN.{replicate, drop, length-replicate}
+use Rattle.code.specs.Bounds.{longest}
+use Rattle.code.specs.Layout.{sum, Lengths}
+use Rattle.code.specs.LayoutLaws.{sum-equal, equal-lengths}
+use Rattle.code.specs.Strands.{outcomes, messagesOf, verdictsOf}
+use Rattle.code.specs.Verdicts.{verdictNumber}
 use Rattle.reading.specs.Walks.{endsFrom}
-use Rattle.equal_segments.proofs.Equal.{equal-front, equal-within, equal-sum, equal-length}
+use Rattle.equal_segments.proofs.Equal.{lent-entries, front-put}
 use Rattle.equal_segments.proofs.read_equal.Statement.{statement}
 use Rattle.equal_segments.proofs.read_equal.Tie as tie
 
+slice-aggregate-fill : tie.Need-slice-aggregate-fill
+slice-aggregate-fill c = let b = c .before .before .before .before .before in sym (lent-entries (b .args .k) (b .args .l) (b .pre .0 .1))
+
 array-share-prefix-lengths : tie.Need-array-share-prefix-lengths
-array-share-prefix-lengths c = search needs
+array-share-prefix-lengths c =
+    let b = c .before .before .before .before .before .before .before in
+    let a = b .args in
+    let y = c .before .fill in
+    front-put (y .last .0) (replicate (a .l) (a .k)) (drop (a .l) (replicate 64 0)) (a .l) (y .ensures ∙ ap (λ (n : ℕ). replicate n (a .k)) (lent-entries (a .k) (a .l) (b .pre .0 .1))) (length-replicate (a .l) (a .k)) .inside
 
 slice-aggregate-read-layout : tie.Need-slice-aggregate-read-layout
-slice-aggregate-read-layout c = let a = c .before .before .before .before .before .args in sym (equal-length 64 (a .l) (a .k) (c .before .before .before .before .before .pre .1 .0 .2))
+slice-aggregate-read-layout c =
+    let b = c .before .before .before .before .before .before .before .before in
+    let a = b .args in
+    let y = c .before .before .fill in
+    sym (front-put (y .last .0) (replicate (a .l) (a .k)) (drop (a .l) (replicate 64 0)) (a .l) (y .ensures ∙ ap (λ (n : ℕ). replicate n (a .k)) (lent-entries (a .k) (a .l) (b .pre .0 .1))) (length-replicate (a .l) (a .k)) .count)
 
 read-layout-requires : tie.Need-read-layout-requires
 read-layout-requires c κs =
-    let a = c .before .before .before .before .before .before .before .before .args in
-    let h = c .before .before .before .before .before .before .before .before .pre in
-    let l = h .1 .0 .2 in
-    let n = equal-length 64 (a .l) (a .k) l in
-    (h .0, (equal-within 64 (a .l) (a .k) l (h .1 .0 .0) (h .1 .0 .1), (omega arith, h .1 .1 .0 ∙ sym (equal-sum 64 (a .l) (a .k) l), h .1 .1 .1 ∙ sym n, h .1 .1 .2 ∙ sym n)))
-
-same-length : tie.Need-same-length
-same-length c = search needs
-
-same-length-2 : tie.Need-same-length-2
-same-length-2 c = search needs
-
-same-length-3 : tie.Need-same-length-3
-same-length-3 c = search needs
+    let b = c .before .before .before .before .before .before .before .before .before .before .before in
+    let a = b .args in
+    let e = b .pre .0 .1 in
+    let h = b .pre .1 in
+    let y = c .before .before .before .before .before .fill in
+    let f = front-put (y .last .0) (replicate (a .l) (a .k)) (drop (a .l) (replicate 64 0)) (a .l) (y .ensures ∙ ap (λ (n : ℕ). replicate n (a .k)) (lent-entries (a .k) (a .l) e)) (length-replicate (a .l) (a .k)) in
+    ((b .pre .0 .0, subst (Lengths longest) (sym (f .entries)) (equal-lengths (a .l) (a .k) (e .least-length) (omega (arith, e .most-length)))), (h .0 ∙ sym (ap sum (f .entries) ∙ sum-equal (a .l) (a .k)), h .1 ∙ sym (f .count), h .2 ∙ sym (f .count)))
 
 returns : tie.Need-returns
 returns c =
-    let a = c .before .before .before .before .before .before .before .before .before .before .before .before .before .before .before .args in
+    let b = c .before .before .before .before .before .before .before .before .before .before .before .before .before .before .before .before .before .before in
+    let a = b .args in
     let s = a .s .now in
-    let e = c .before .before .before .before .before .before .read-layout .ensures in
-    let same = equal-front 64 (a .l) (a .k) (c .before .before .before .before .before .before .before .before .before .before .before .before .before .before .before .pre .1 .0 .2) in
-    (e .0 ∙ ap (λ (ks : List ℕ). messagesOf (outcomes ks s)) same, (e .1 .0 ∙ ap (λ (ks : List ℕ). marksOf (outcomes ks s)) same, e .1 .1 ∙ ap (λ (ks : List ℕ). endsFrom 0 (outcomes ks s)) same))
+    let y = c .before .before .before .before .before .before .before .before .before .before .before .before .fill in
+    let r = c .before .before .before .before .before .before .read-layout .ensures in
+    let same = front-put (y .last .0) (replicate (a .l) (a .k)) (drop (a .l) (replicate 64 0)) (a .l) (y .ensures ∙ ap (λ (n : ℕ). replicate n (a .k)) (lent-entries (a .k) (a .l) (b .pre .0 .1))) (length-replicate (a .l) (a .k)) .entries in (
+      r .0 ∙ ap (λ (ks : List ℕ). messagesOf (outcomes ks s)) same,
+      (r .1 .0 ∙ ap (λ (ks : List ℕ). map verdictNumber (verdictsOf (outcomes ks s))) same, r .1 .1 ∙ ap (λ (ks : List ℕ). endsFrom 0 (outcomes ks s)) same),
+    )
 
 pub read-equal-spec : {M : Type 1} → statement M
 read-equal-spec =
     tie.close
     (tie.spec
+    (λ c. search needs)
+    slice-aggregate-fill
+    (λ c κs. search needs)
     array-share-prefix-lengths
     slice-aggregate-read-layout
     read-layout-requires
-    same-length
-    same-length-2
-    same-length-3
+    (λ c. search needs)
+    (λ c. search needs)
+    (λ c. search needs)
     returns)

@@ -3,6 +3,7 @@ use mathlib.Core.Bool.{true, false}
 use native.Mathlib.Omega.{arith}
 use borrow.Author.Needs.{needs}
 use borrow.Author.Tests.{eq-eqb, ne-eqb, le-leb, lt-leb, not-true, not-false}
+use Rattle.hex.specs.declared.Hex.the-variants.{Bytes}
 use Rattle.hex.specs.Digits.{allDigits}
 use Rattle.hex.specs.DigitsLaws.{length-hex-bytes}
 use Rattle.hex.proofs.decode.Statement.{statement}
@@ -12,17 +13,17 @@ pub decode-spec : {M : Type 1} → statement M
 decode-spec =
     tie.close
     (tie.spec
-    (λ c. let t = ne-eqb _ _ (c .if1 .taken) in (simp t, simp t))
+    (λ c. let t = ne-eqb _ _ (c .if1 .taken) in simp t)
     (λ c κs. search needs)
     (λ c.
     let t = eq-eqb _ _ (c .before .before .if1 .left) in
     let d : allDigits (c .before .before .before .before .before .args .text .now) ≡ false = sym (c .before .all-digits .ensures) ∙ not-true _ (c .if2 .taken) in
-    (simp (t, d), simp (t, d)))
+    simp (t, d))
     (λ c.
     let t = eq-eqb _ _ (c .before .before .before .if1 .left) in
     let d : allDigits (c .before .before .before .before .before .before .args .text .now) ≡ true = sym (c .before .before .all-digits .ensures) ∙ not-false _ (c .before .if2 .left) in
     let s = lt-leb _ _ (c .if3 .taken) in
-    (simp (t, d, s), simp (t, d, s)))
+    simp (t, d, s))
     (λ c κs. (sym (c .before .before .before .all-digits .ensures) ∙ not-false _ (c .before .before .if2 .left), omega arith))
     (λ c. search needs)
     (λ c.
@@ -31,4 +32,4 @@ decode-spec =
     let d : allDigits (a .text .now) ≡ true = sym (c .before .before .before .before .before .before .all-digits .ensures) ∙ not-false _ (c .before .before .before .before .before .if2 .left) in
     let s = le-leb _ _ (c .before .before .before .before .if3 .left) in
     let n = length-hex-bytes (a .text .now) in
-    (simp (t, d, s), simp (t, d, s, n) (c .before .before .put-bytes .ensures))))
+    simp (t, d, s) (λ i. (Bytes (sym n i), c .before .before .put-bytes .ensures i))))

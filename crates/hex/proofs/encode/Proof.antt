@@ -1,4 +1,4 @@
-use mathlib.Core.Path.{_≡_, refl, ap, _∙_}
+use mathlib.Core.Path.{_≡_, refl, _∙_}
 use mathlib.Core.List.{_++_}
 use Prim.Native.Nat.{_-_, _*_, _≤_}
 use native.Mathlib.Omega.{arith}
@@ -27,7 +27,7 @@ encode-spec =
     (λ c.
     let a = c .before .before .before .args in
     let t = lt-leb (2 * length (a .bytes .now)) (length (a .out .now)) (omega arith) in
-    (simp t, simp t))
+    simp t)
     (λ c. (omega arith, refl, refl))
     (λ c. omega arith)
     (λ c. omega arith)
@@ -51,6 +51,7 @@ encode-spec =
     let l = c .before .loop in
     let a = c .before .before .before .before .before .args in
     let n = length-hex-digits (a .bytes .now) in
-    let e : 2 * l .i ≡ 2 * length (a .bytes .now) = omega arith in
+    let e : 2 * l .i ≡ length (hexDigits (a .bytes .now)) = omega arith in
     let t = le-leb (2 * length (a .bytes .now)) (length (a .out .now)) (omega arith) in
-    (simp t (ap Bytes e), simp t (l .inv .2 ∙ write-all (hexDigits (a .bytes .now)) (a .out .now) (2 * l .i) (omega arith)))))
+    let w = l .inv .2 ∙ write-all (hexDigits (a .bytes .now)) (a .out .now) (2 * l .i) (omega arith) in
+    simp t (λ i. (Bytes (e i), w i))))

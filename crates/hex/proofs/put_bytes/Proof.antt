@@ -56,4 +56,4 @@ put-bytes-spec =
     let l = c .before .loop in
     let a = c .before .before .before .before .args in
     let n = length-hex-bytes (a .digits .now) in
-    l .inv .2 ∙ write-all (hexBytes (a .digits .now)) (a .out .now) (l .i) (omega arith) ∙ rw n))
+    l .inv .2 ∙ write-all (hexBytes (a .digits .now)) (a .out .now) (l .i) (omega arith)))

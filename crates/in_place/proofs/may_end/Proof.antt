@@ -7,5 +7,5 @@ pub may-end-spec : {M : Type 1} → statement M
 may-end-spec =
     tie.close
     (tie.spec
-    (λ c. let a = c .before .args in may-follow (a .next) (a .end) (a .n) (c .if1 .taken))
-    (λ c. let a = c .before .args in may-last (a .next) (a .end) (a .n) (omega arith)))
+    (λ c. let a = c .before .args in may-follow (a .rest .now) (a .end) (a .n) (c .if1 .taken))
+    (λ c. let a = c .before .args in may-last (a .rest .now) (a .end) (a .n) (omega arith)))

@@ -27,7 +27,7 @@ returns c =
     let h = b .pre .1 .0 in
     let e = ap (λ (u : Summed). u .check) (b .pre .1 .1) in
     let x = c .before .before .before .sep-of in
-    front-fails (take (a .to - a .d) (drop (a .d) (a .s .now))) (a .s .now) (a .to) (x .result) (separator-there (a .s .now) (a .d) (a .to) (a .end) (h .0) (h .1) (h .2) (h .3) (b .pre .0) (x .result) (rw (← e) (x .ensures))) (rw (← e) (sym (c .before .stands-at .ensures) ∙ not-true _ (c .if1 .taken)))
+    front-fails (take (a .to - a .d) (drop (a .d) (a .s .now))) (a .s .now) (a .to) (x .result) (separator-there (a .s .now) (a .d) (a .to) (a .end) (h .0) (h .1) (h .2) (h .3) (b .pre .0 .symbols) (x .result) (rw (← e) (x .ensures))) (rw (← e) (sym (c .before .stands-at .ensures) ∙ not-true _ (c .if1 .taken)))
 
 syndrome-stands-requires : tie.Need-syndrome-stands-requires
 syndrome-stands-requires c κs = let b = c .before .before .before .before .before .before .before in (b .pre .0, (b .pre .1 .0, ap (λ (u : Summed). u .places) (b .pre .1 .1)))
@@ -39,7 +39,7 @@ returns-2 c =
     let h = b .pre .1 .0 in
     let e = ap (λ (u : Summed). u .check) (b .pre .1 .1) in
     let x = c .before .before .before .before .sep-of in
-    front-holds (take (a .to - a .d) (drop (a .d) (a .s .now))) (a .s .now) (a .to) (x .result) (separator-there (a .s .now) (a .d) (a .to) (a .end) (h .0) (h .1) (h .2) (h .3) (b .pre .0) (x .result) (rw (← e) (x .ensures))) (rw (← e) (sym (c .before .before .stands-at .ensures) ∙ not-false _ (c .before .if1 .left))) _ (c .syndrome-stands .ensures)
+    front-holds (take (a .to - a .d) (drop (a .d) (a .s .now))) (a .s .now) (a .to) (x .result) (separator-there (a .s .now) (a .d) (a .to) (a .end) (h .0) (h .1) (h .2) (h .3) (b .pre .0 .symbols) (x .result) (rw (← e) (x .ensures))) (rw (← e) (sym (c .before .before .stands-at .ensures) ∙ not-false _ (c .before .if1 .left))) _ (c .syndrome-stands .ensures)
 
 pub tail-stands-spec : {M : Type 1} → statement M
 tail-stands-spec =

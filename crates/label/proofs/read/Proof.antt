@@ -8,15 +8,16 @@ use lib.Bits.{bitAnd}
 use lib.ListN.{length}
 use Rattle.code.specs.declared.Checked.{Checked}
 use Rattle.code.specs.declared.Checked.the-variants.{Fine}
-use Rattle.code.specs.Refusals.{orderTest}
-use Rattle.code.specs.Label.{numberOf4, given, orderOf}
+use Rattle.code.specs.declared.Order.the-variants as O
+use Rattle.code.specs.Refusals.{unlessRefused, orderTest}
+use Rattle.code.specs.Label.{numberOf4, orderOf}
 use Rattle.code.specs.LabelLaws.{order-short, order-edition, order-spare, order-tested}
 use Rattle.label.proofs.Bits.{mask-byte, mask-length, mask-spare}
 use Rattle.label.proofs.read.Statement.{statement}
 use Rattle.label.proofs.read.Tie as tie
 
 -- the answer to t, the outcome of the tests of k and B, once edition and spare bits are tested
-answer : (bs : List ℕ) (n : ℕ) (t : Checked) → n ≡ numberOf4 bs → 4 ≤ length bs → n / 268435456 ≡ 1 → bitAnd n 8191 ≡ 0 → orderTest (bitAnd (n / 2097152) 127) (bitAnd (n / 8192) 255) false Fine ≡ t → given t (bitAnd (n / 2097152) 127) (bitAnd (n / 8192) 255) ≡ orderOf bs
+answer : (bs : List ℕ) (n : ℕ) (t : Checked) → n ≡ numberOf4 bs → 4 ≤ length bs → n / 268435456 ≡ 1 → bitAnd n 8191 ≡ 0 → orderTest (bitAnd (n / 2097152) 127) (bitAnd (n / 8192) 255) false Fine ≡ t → unlessRefused t (O.Is (bitAnd (n / 2097152) 127) (bitAnd (n / 8192) 255)) O.Refused ≡ orderOf bs
 answer bs n t e h edition spare tested =
     rw (← tested, mask-length (n / 2097152), mask-byte (n / 8192), e)
     (sym (order-tested bs h (rw e at edition) (rw e at (sym (mask-spare n) ∙ spare))))

@@ -1,4 +1,3 @@
-use Prim.Native.Nat.{_*_, _-_}
 use native.Mathlib.Omega.{arith}
 use borrow.Author.Needs.{needs}
 use lib.Count.{leading-le}
@@ -12,6 +11,6 @@ width-of-spec =
     (tie.spec
     (λ c. search needs)
     (λ c. search needs)
-    (λ c. leading-le 64 (2 * c .args .k - 1))
+    (λ c. leading-le 64 _)
     (λ c. search needs)
     (λ c. width-leading 64 (c .args .k) (omega arith) (omega arith)))

@@ -13,13 +13,13 @@ extent-of-spec =
     tie.close
     (tie.spec
     (λ c κs. search needs)
-    (λ c. omega (arith, c .width-of .ensures, width-least (c .before .args .k) .least 17 (omega arith)))
-    (λ c. omega (arith, c .width-of .ensures, width-least (c .before .args .k) .least 17 (omega arith)))
+    (λ c. omega (arith, c .width-of .ensures, width-least (c .before .args .k) .least 9 (omega arith)))
+    (λ c. omega (arith, c .width-of .ensures, width-least (c .before .args .k) .least 9 (omega arith)))
     (λ c.
-    let w = width-least (c .before .args .k) .least 17 (omega arith) in
+    let w = width-least (c .before .args .k) .least 9 (omega arith) in
     let e = c .width-of .ensures in
-    let n : c .before .args .k + c .width-of .result + 6 ≤ 65559 = omega arith in
-    let l : c .before .args .l ≤ 65536 = omega arith in
+    let n : c .before .args .k + c .width-of .result + 6 ≤ 271 = omega arith in
+    let l : c .before .args .l ≤ 64 = omega arith in
     omega (arith, mul-le-mul l n))
     (λ c. search needs)
     (λ c. rw (c .width-of .ensures) (sym (extent-equal (c .before .args .l) (c .before .args .k) (omega arith)))))

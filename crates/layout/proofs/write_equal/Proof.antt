@@ -7,7 +7,7 @@ use lib.Seq.{length-take-le}
 use Rattle.code.specs.SymbolsLaws.{length-symbols}
 use Rattle.packing.proofs.unpack.Reads as unpack-reads
 use Rattle.symbols.proofs.spell.Reads as spell-reads
-use Rattle.layout.proofs.Equal.{Front, unpacked, equal-lengths, equal-sum, equal-extent, equal-front}
+use Rattle.layout.proofs.Equal.{Front, unpacked, front-lengths, equal-sum, equal-extent, equal-front}
 use Rattle.layout.proofs.write_layout.Reads as write-layout-reads
 use Rattle.layout.proofs.write_equal.Lts as lts
 use Rattle.layout.proofs.write_equal.Reads as reads
@@ -21,7 +21,7 @@ front c =
     let h = c .before .before .before .before .before .before .before .before .before .pre in
     let u = c .before .before .before .before .before .unpack in
     let w = c .write-layout in
-    equal-front 64 (a .l) (a .k) (h .0 .2) (a .message .now) (h .1 .1) (u .last .1 .0) _ (a .out .now) (w .last .1 .1 .0) (w .result) (u .ensures) (w .ensures .0) (w .ensures .1)
+    equal-front 64 (a .l) (a .k) (h .0 .most-segments) (a .message .now) (h .1 .0) (u .last .1 .0) _ (a .out .now) (w .last .1 .1 .0) (w .result) (u .ensures) (w .ensures .0) (w .ensures .1)
 
 pub write-equal-spec : {M : Type 1} → statement M
 write-equal-spec =
@@ -40,8 +40,8 @@ write-equal-spec =
     let u = c .before .before .before .before .unpack in
     let m = a .message .now in
     let e = unpacked m (u .last .1 .0) _ (u .ensures) in
-    let l = h .0 .2 in
-    (equal-lengths 64 (a .l) (a .k) l (omega arith) (omega arith), (equal-sum 64 (a .l) (a .k) l ∙ h .1 .1 ∙ rw e (sym (length-symbols m)), rw (equal-extent 64 (a .l) (a .k) l) (omega arith))))
+    let l = h .0 .most-segments in
+    (front-lengths 64 (a .l) (a .k) l (omega arith) (omega arith), (equal-sum 64 (a .l) (a .k) l ∙ h .1 .0 ∙ rw e (sym (length-symbols m)), rw (equal-extent 64 (a .l) (a .k) l) (omega arith))))
     (λ c. front (c .before .before) .inside)
     (λ c. let w = c .before .before .before .write-layout in sym (length-take-le (w .result) (w .last .1 .1 .0) (front (c .before .before .before) .inside)))
     (λ c κs. front (c .before .before .before) .below)

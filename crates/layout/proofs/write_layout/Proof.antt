@@ -1,6 +1,7 @@
 use Prim.Native.Nat.{_-_}
 use native.Mathlib.Omega.{arith}
 use lib.ListN.{length, getD}
+use Rattle.code.specs.LayoutLaws.{lengths-at}
 use Rattle.segment.proofs.size_of.Reads as size-of-reads
 use Rattle.segment.proofs.write_segment.Reads as write-segment-reads
 use Rattle.layout.proofs.Written.{Standing, Step, begin, step, turn, end}
@@ -37,9 +38,9 @@ write-layout-spec =
     (λ c. let g = next (c .before) in g .symbols)
     (λ c κs.
     let g = next (c .before .before .before) in
-    let k = c .before .before .before .before .before .before .before .before .pre .0 (c .before .before .before .before .loop .i) (omega arith) in
-    (omega arith, omega arith, omega arith, rw (g .length-part) (g .room)))
-    (λ c κs. let k = c .before .before .before .before .before .before .before .before .before .before .before .pre .0 (c .before .before .before .before .before .before .before .loop .i) (omega arith) in (omega arith, omega arith))
+    let k = lengths-at (c .before .before .before .before .before .before .before .before .args .lengths .now) (c .before .before .before .before .loop .i) (c .before .before .before .before .before .before .before .before .pre .0) (omega arith) in
+    (omega arith, (omega arith, omega arith), rw (g .length-part) (g .room)))
+    (λ c κs. let k = lengths-at (c .before .before .before .before .before .before .before .before .before .before .before .args .lengths .now) (c .before .before .before .before .before .before .before .loop .i) (c .before .before .before .before .before .before .before .before .before .before .before .pre .0) (omega arith) in (omega arith, omega arith))
     (λ c. let g = next (c .before .before .before .before .before .before .before) in omega (arith, c .size-of .ensures))
     (λ c. omega arith)
     (λ c. omega arith)
@@ -53,4 +54,4 @@ write-layout-spec =
     (λ c.
     let a = c .before .before .before .before .before .args in
     let l = c .before .loop in
-    end (a .lengths .now) (a .symbols .now) (a .out .now) (l .i) (l .from) (l .at) (l .f) (l .marked) (l .out) (l .inv) (omega arith)))
+    end (a .lengths .now) (a .symbols .now) (a .out .now) (l .i) (l .from) (l .at) (l .f) (l .marked) (l .out) (l .inv) (c .before .before .before .before .before .pre .1 .0) (omega arith)))

@@ -11,14 +11,17 @@ mend-spec =
     (λ c κs.
     let p = c .before .before .before .pre in
     let h = rw (c .enum-told .given .1) at (p .1) in
-    (p .0, omega arith, omega arith, p .3))
+    (p .0, omega arith, omega arith, p .2))
     (λ c. search needs)
     (λ c κs.
     let p = c .before .before .before .pre in
     let h = rw (c .enum-told2 .given .1) at (p .1) in
-    (p .0, omega arith, omega arith, p .3))
+    (p .0, omega arith, omega arith, p .2))
     (λ c. search needs)
-    (λ c κs. search needs)
+    (λ c κs.
+    let p = c .before .before .before .pre in
+    let h = rw (c .enum-told3 .given .1) at (p .1) in
+    (p .0, omega arith, p .2))
     (λ c. rw (c .before .enum-told .given .1) (c .mend-changed .ensures))
     (λ c. rw (c .before .enum-told2 .given .1) (c .mend-more .ensures))
     (λ c. rw (c .before .enum-told3 .given .1) (c .mend-less .ensures)))

@@ -6,7 +6,7 @@ use borrow.Author.Count.{falls}
 use lib.ListN.{length, take, length-set}
 use Rattle.code.specs.Layers.{layer}
 use Rattle.code.specs.LayersLaws.{length-layer}
-use Rattle.mending.proofs.Stretches.{Mended, inside, Places, places, received-inside, stretch-before, stretch-between, stretch-behind}
+use Rattle.mending.proofs.Stretches.{Mended, inside, Places, places, rest-few, stretch-before, stretch-between, stretch-behind}
 use Rattle.mending.proofs.mended_pair.Statement.{statement}
 use Rattle.mending.proofs.mended_pair.Tie as tie
 
@@ -60,15 +60,18 @@ mended-pair-spec =
     let s = c .before .before .before .before .before .before .before .before .before .before .before .before .before .before .before .before in
     let a = s .args in
     (omega arith, simp length-set (l .inv .1), stretch-between (a .link) (a .symbols .now) (a .high) (a .low) (length (a .out .now)) (s .pre .0) (s .pre .1 .0) (s .pre .1 .1) (l .out) (l .i) (c .before .mended-digit .result) (c .mended-digit2 .result) (l .inv .1) (omega arith) (l .inv .2) (c .before .mended-digit .ensures .0) (c .mended-digit2 .ensures .0), l .inv .3))
-    (λ c κs. let l = c .before .loop in (λ e. omega (arith, l .inv .3 .some e), omega arith))
-    (λ c κs.
-    let l = c .before .before .before .loop in
-    let s = c .before .before .before .before .before .before .before .before .before .before .before .before .before .before .before .before in
-    let a = s .args in
-    (l .inv .0, omega arith, rw (s .pre .0, c .before .behind .ensures) (received-inside (a .link) (length (a .symbols .now)) (l .i) (λ e. omega (arith, l .inv .3 .some e)))))
     (λ c. omega arith)
     (λ c.
-    let l = c .before .before .before .before .before .before .loop in
-    let s = c .before .before .before .before .before .before .before .before .before .before .before .before .before .before .before .before .before .before .before in
+    let l = c .before .loop in
+    let s = c .before .before .before .before .before .before .before .before .before .before .before .before .before .before in
+    omega (arith, rest-few (s .args .link) (length (s .args .symbols .now)) (length (s .args .out .now)) (l .i) (s .pre .0) (λ e. omega (arith, l .inv .3 .some e))))
+    (λ c κs.
+    let l = c .before .before .loop in
+    let s = c .before .before .before .before .before .before .before .before .before .before .before .before .before .before .before in
+    (l .inv .0, omega arith, omega (arith, rest-few (s .args .link) (length (s .args .symbols .now)) (length (s .args .out .now)) (l .i) (s .pre .0) (λ e. omega (arith, l .inv .3 .some e)))))
+    (λ c. omega arith)
+    (λ c.
+    let l = c .before .before .before .before .before .loop in
+    let s = c .before .before .before .before .before .before .before .before .before .before .before .before .before .before .before .before .before .before in
     let a = s .args in
-    rw (c .before .before .put-symbols2 .ensures, c .before .before .before .before .behind .ensures) (stretch-behind (a .link) (a .symbols .now) (a .high) (a .low) (length (a .out .now)) (s .pre .0) (s .pre .1 .0) (s .pre .1 .1) (l .out) (l .i) (l .inv .1) (l .inv .0) (λ e. omega (arith, l .inv .3 .some e)) (λ i h q. l .inv .3 .rear i (omega arith) q) (l .inv .2))))
+    rw (c .before .before .put-symbols2 .ensures) (stretch-behind (a .link) (a .symbols .now) (a .high) (a .low) (length (a .out .now)) (s .pre .0) (s .pre .1 .0) (s .pre .1 .1) (l .out) (l .i) (l .inv .1) (l .inv .0) (λ e. omega (arith, l .inv .3 .some e)) (λ i h q. l .inv .3 .rear i (omega arith) q) (l .inv .2))))

@@ -12,20 +12,17 @@ agrees-requires : tie.Need-agrees-requires
 agrees-requires c κs =
     let b = c .before .before in
     let a = b .args in
-    let t = b .pre .1 .1 .0 .1 in
+    let t = b .pre .1 .1 .1 in
     let k = length (a .out .now) in
     let q = moved-least (shiftOf (a .j)) k in
     let r = tail-room (a .d) k (a .s .now) (a .tail) (omega arith) (omega arith) (omega arith) t in
-    (omega arith, omega arith, omega arith, r .0, r .1)
+    (b .pre .0 .0, b .pre .0 .1, omega arith, omega arith, r .0, r .1)
 
 taken-with-requires : tie.Need-taken-with-requires
 taken-with-requires c κs =
     let b = c .before .before .before .before .before in
     let q = moved-least (shiftOf (b .args .j)) (length (b .args .out .now)) in
-    ((omega arith, omega arith, omega arith), (b .pre .1 .1 .1, b .pre .1 .1 .0 .1))
-
-same-length : tie.Need-same-length
-same-length c = search needs
+    ((b .pre .0 .0, b .pre .0 .1, omega arith), b .pre .1 .1 .1)
 
 returns : tie.Need-returns
 returns c =
@@ -33,13 +30,7 @@ returns c =
     let a = b .args in
     let g = c .before .before .before .before .before .agrees in
     let r = c .before .before .taken-with in
-    is-got _ _ _ (r .result) (shift-read (shiftOf (a .j)) (length (a .out .now)) (a .d) (a .s .now) (a .tail) (g .result) (b .pre .1 .1 .0 .1) (g .ensures) (c .before .before .before .before .if1 .taken)) (r .ensures)
-
-repair-at-requires : tie.Need-repair-at-requires
-repair-at-requires c κs = search needs
-
-same-length-2 : tie.Need-same-length-2
-same-length-2 c = search needs
+    is-got _ _ _ (r .result) (shift-read (shiftOf (a .j)) (length (a .out .now)) (a .d) (a .s .now) (a .tail) (g .result) (b .pre .1 .1 .1) (g .ensures) (c .before .before .before .before .if1 .taken)) (r .ensures)
 
 returns-2 : tie.Need-returns-2
 returns-2 c =
@@ -47,7 +38,7 @@ returns-2 c =
     let a = b .args in
     let g = c .before .before .before .before .before .agrees in
     let r = c .before .before .repair-at in
-    is-got _ _ _ (r .result) (shift-repaired (shiftOf (a .j)) (length (a .out .now)) (a .d) (a .s .now) (a .tail) (g .result) (b .pre .1 .1 .0 .1) (g .ensures) (c .before .before .before .before .if1 .left)) (r .ensures)
+    is-got _ _ _ (r .result) (shift-repaired (shiftOf (a .j)) (length (a .out .now)) (a .d) (a .s .now) (a .tail) (g .result) (b .pre .1 .1 .1) (g .ensures) (c .before .before .before .before .if1 .left)) (r .ensures)
 
 pub at-separator-spec : {M : Type 1} → statement M
 at-separator-spec =
@@ -55,8 +46,8 @@ at-separator-spec =
     (tie.spec
     agrees-requires
     taken-with-requires
-    same-length
+    (λ c. search needs)
     returns
-    repair-at-requires
-    same-length-2
+    (λ c κs. search needs)
+    (λ c. search needs)
     returns-2)

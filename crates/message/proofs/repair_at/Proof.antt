@@ -1,148 +1,106 @@
 use borrow.Author.Needs.{needs}
 use mathlib.Core.Path.{_≡_, refl, sym, ap, _∙_}
-use Prim.Native.Nat.{ℕ, _+_, _-_}
+use Prim.Native.Nat.{ℕ, _+_, _-_, _≤_, _<_}
 use native.Mathlib.Omega.{arith}
-use lib.ListN.{length, take, drop, length-take, length-drop}
+use lib.ListN.{length, drop}
 use Rattle.code.specs.BelowLaws.{below-take, below-drop}
 use Rattle.code.specs.Layers.{sumOfPlaces}
+use Rattle.code.specs.Reading.{moved}
 use Rattle.code.specs.SegmentLaws.{width-two}
-use Rattle.code.specs.Reading.{linkOf, moved}
+use Rattle.compare.specs.Offsets.{triedAt}
+use Rattle.compare.specs.OffsetsLaws.{tried-small}
 use Rattle.layers.specs.Answers.{both}
 use Rattle.message.specs.Answers.{shiftOf}
 use Rattle.message.proofs.Mends.{is-lost, is-got}
-use Rattle.message.proofs.Steps.{repaired-short, repaired-by, sent-moved, width-most, part-is}
-use Rattle.message.proofs.Parts.{moved-room}
+use Rattle.message.proofs.Separators.{tried-shift}
+use Rattle.message.proofs.Steps.{repaired-short, repaired-by, sent-moved, width-most, lent}
+use Rattle.message.proofs.Parts.{moved-room, moved-near, part-length}
 use Rattle.message.proofs.repair_at.Statement.{statement}
 use Rattle.message.proofs.repair_at.Tie as tie
-
-width-of-requires : tie.Need-width-of-requires
-width-of-requires c κs = search needs
-
-add-shifted : tie.Need-add-shifted
-add-shifted c = search needs
-
-shifted-requires : tie.Need-shifted-requires
-shifted-requires c κs = search needs
-
-add-after : tie.Need-add-after
-add-after c = search needs
-
-add-after-2 : tie.Need-add-after-2
-add-after-2 c = search needs
 
 add-end : tie.Need-add-end
 add-end c =
     omega (arith, c .before .width-of .ensures, width-most (length (c .before .before .before .before .args .out .now)) (omega arith))
 
-lost-in-requires : tie.Need-lost-in-requires
-lost-in-requires c κs = search needs
-
 returns : tie.Need-returns
 returns c =
-    let a = c .before .before .before .before .before .before .args in
+    let a = c .before .before .before .before .before .args in
     let k = length (a .out .now) in
     let j = shiftOf (a .j) in
-    let m = c .before .before .shifted .ensures .0 in
-    let w = c .before .before .before .width-of in
-    is-lost _ _ (c .lost-in .result) 7 (repaired-short j k (a .d) (w .result) (a .s .now) (linkOf j) (w .ensures) (omega (arith, width-two k (omega arith))) (omega arith)) (c .lost-in .ensures)
+    let m = c .before .after-separator .ensures .0 in
+    let w = c .before .before .width-of in
+    is-lost _ _ 7 (repaired-short j k (a .d) (w .result) (a .s .now) (w .ensures) (omega (arith, width-two k (omega arith))) (omega arith))
 
-shifted-requires-2 : tie.Need-shifted-requires-2
-shifted-requires-2 c κs = search needs
-
-add-to : tie.Need-add-to
-add-to c = search needs
+-- the received symbols end before what stands behind the separator
+room : (j k d v after : ℕ) → j < 3 → v ≡ triedAt k j → after ≡ d + (moved (shiftOf j) (k + 1) + 3) → d + v ≤ after
+room j k d v after h e f = omega (arith, e ∙ tried-shift k j h, moved-room (shiftOf j) k .1)
 
 received-sums-requires : tie.Need-received-sums-requires
 received-sums-requires c κs =
     let b = c .before .before .before .before .before .before in
     let k = length (b .args .out .now) in
     let r = moved-room (shiftOf (b .args .j)) k in
-    ((omega arith, omega arith, omega arith, omega arith, omega arith), (omega arith, b .pre .1 .1 .0))
-
-link-of-requires : tie.Need-link-of-requires
-link-of-requires c κs = search needs
-
-sub-mend-both : tie.Need-sub-mend-both
-sub-mend-both c = search needs
-
-part-mend-both-start : tie.Need-part-mend-both-start
-part-mend-both-start c = search needs
-
-part-mend-both-end : tie.Need-part-mend-both-end
-part-mend-both-end c = search needs
-
-sub-mend-both-2 : tie.Need-sub-mend-both-2
-sub-mend-both-2 c = search needs
-
-part-mend-both-start-2 : tie.Need-part-mend-both-start-2
-part-mend-both-start-2 c = search needs
-
-part-mend-both-end-2 : tie.Need-part-mend-both-end-2
-part-mend-both-end-2 c = search needs
+    ((b .pre .0 .0, b .pre .0 .1, omega arith, omega arith, omega arith), b .pre .1 .1)
 
 mend-both-requires : tie.Need-mend-both-requires
 mend-both-requires c κs =
     let b = c .before .before .before .before .before .before .before .before .before .before .before in
     let a = b .args in
+    let s = a .s .now in
     let k = length (a .out .now) in
     let j = shiftOf (a .j) in
-    let m = c .before .before .before .before .before .before .before .shifted .ensures in
-    let g = c .before .before .before .before .before .before .before .shifted .result in
-    let n = c .before .before .before .before .before .shifted2 .ensures in
-    let v = c .before .before .before .before .before .shifted2 .result in
-    let w = c .before .before .before .before .before .before .before .before .width-of .ensures in
-    let t = c .before .before .before .before .before .before .before .before .width-of .result in
+    let v = c .before .before .before .before .before .moved-by in
+    let e = v .ensures ∙ tried-shift k (a .j) (omega arith) in
+    let g = c .before .before .before .before .before .before .before .after-separator in
+    let t = c .before .before .before .before .before .before .before .before .width-of in
     let q = width-most k (omega arith) in
-    let x : length (take (a .d + v - a .d) (drop (a .d) (a .s .now))) ≡ v = simp (length-take, length-drop) (omega arith) in
-    let f : take (a .d + v - a .d) (drop (a .d) (a .s .now)) ≡ take (moved j k) (drop (a .d) (a .s .now)) = part-is (a .d) v (a .s .now) (a .d + v) refl ∙ ap (λ (y : ℕ). take y (drop (a .d) (a .s .now))) (n .0) in
-    let y : length (take (a .d + (g + 3) + t - (a .d + (g + 3))) (drop (a .d + (g + 3)) (a .s .now))) ≡ t = simp (length-take, length-drop) (omega arith) in (
-      (omega arith, omega arith, y ∙ w),
+    let m = room (a .j) k (a .d) (v .result) (g .result) (omega arith) (v .ensures) (g .ensures .0) in
+    let x = part-length (a .d) (v .result) s (a .d + v .result) refl (omega arith) in
+    let y = part-length (g .result) (t .result) s (g .result + t .result) refl (omega arith) in (
+      (b .pre .0 .1, y ∙ t .ensures, below-take (g .result + t .result - g .result) (drop (g .result) s) (below-drop (g .result) s (b .pre .0 .0 .symbols))),
       (
-        (rw (x, c .before .before .before .link-of .ensures, n .0) (sym (sent-moved j k (omega arith))), rw x (omega arith), c .before .before .before .before .received-sums .ensures ∙ ap (both sumOfPlaces) (sym f)),
-        below-take (a .d + (g + 3) + t - (a .d + (g + 3))) (drop (a .d + (g + 3)) (a .s .now)) (below-drop (a .d + (g + 3)) (a .s .now) (b .pre .1 .1 .1)),
+        (rw (x, c .before .before .before .link-of .ensures, e) (sym (sent-moved j k (omega arith))), rw x (omega (arith, moved-near j k))),
+        c .before .before .before .before .received-sums .ensures ∙ ap (both sumOfPlaces) (sym (lent j k (a .d) (v .result) s e)),
       ),
     )
 
-same-length : tie.Need-same-length
-same-length c = search needs
-
 returns-2 : tie.Need-returns-2
 returns-2 c =
-    let a = c .before .before .before .before .before .before .before .before .before .before .before .before .before .before .args in
+    let b = c .before .before .before .before .before .before .before .before .before .before .before .before .before .before in
+    let a = b .args in
     let k = length (a .out .now) in
-    let j = shiftOf (a .j) in
-    let m = c .before .before .before .before .before .before .before .before .before .before .shifted .ensures .0 in
-    let n = c .before .before .before .before .before .before .before .before .shifted2 .ensures .0 in
-    let t = c .before .before .before .before .before .before .before .before .before .before .before .width-of .result in
-    let w = c .before .before .before .before .before .before .before .before .before .before .before .width-of .ensures in
-    let g = c .before .before .before .before .before .before .before .before .before .before .shifted .result in
-    let v = c .before .before .before .before .before .before .before .before .shifted2 .result in
-    let e : take (a .d + (g + 3) + t - (a .d + (g + 3))) (drop (a .d + (g + 3)) (a .s .now)) ≡ take t (drop (a .d + (moved j (k + 1) + 3)) (a .s .now)) = part-is (a .d + (g + 3)) t (a .s .now) (a .d + (g + 3) + t) refl ∙ ap (λ (y : ℕ). take t (drop (a .d + (y + 3)) (a .s .now))) m in
-    let f : take (a .d + v - a .d) (drop (a .d) (a .s .now)) ≡ take (moved j k) (drop (a .d) (a .s .now)) = part-is (a .d) v (a .s .now) (a .d + v) refl ∙ ap (λ (y : ℕ). take y (drop (a .d) (a .s .now))) n in
-    is-got _ _ _ (c .before .before .mend-both .result) (repaired-by j k (a .d) t (a .s .now) _ _ (c .before .before .before .before .before .before .link-of .result) (c .before .before .before .before .before .before .link-of .ensures) w (omega arith) e f) (c .before .before .mend-both .ensures)
+    let l = c .before .before .before .before .before .before .link-of in
+    let v = c .before .before .before .before .before .before .before .before .moved-by in
+    let g = c .before .before .before .before .before .before .before .before .before .before .after-separator in
+    let t = c .before .before .before .before .before .before .before .before .before .before .before .width-of in
+    is-got _ _ _ (c .before .before .mend-both .result) (repaired-by (shiftOf (a .j)) k (a .d) (t .result) (v .result) _ (a .s .now) (l .result) (l .ensures) (t .ensures) (v .ensures ∙ tried-shift k (a .j) (b .pre .1 .0 .0)) (g .ensures .0) (omega arith)) (c .before .before .mend-both .ensures)
 
 pub repair-at-spec : {M : Type 1} → statement M
 repair-at-spec =
     tie.close
     (tie.spec
-    width-of-requires
-    add-shifted
-    shifted-requires
-    add-after
-    add-after-2
+    (λ c κs. search needs)
+    (λ c κs.
+    let b = c .before .before .before in
+    (omega arith, omega (arith, b .pre .0 .0 .short), b .pre .0 .1))
     add-end
-    lost-in-requires
     returns
-    shifted-requires-2
-    add-to
+    (λ c κs. omega arith)
+    (λ c.
+    let a = c .before .before .before .before .before .before .args in
+    omega (arith, c .moved-by .ensures, tried-small (length (a .out .now)) (a .j) (omega arith)))
     received-sums-requires
-    link-of-requires
-    sub-mend-both
-    part-mend-both-start
-    part-mend-both-end
-    sub-mend-both-2
-    part-mend-both-start-2
-    part-mend-both-end-2
+    (λ c κs. search needs)
+    (λ c. search needs)
+    (λ c. search needs)
+    (λ c.
+    let a = c .before .before .before .before .before .before .before .before .args in
+    let v = c .before .before .moved-by in
+    let g = c .before .before .before .before .after-separator in
+    omega (arith, room (a .j) (length (a .out .now)) (a .d) (v .result) (g .result) (omega arith) (v .ensures) (g .ensures .0)))
+    (λ c. search needs)
+    (λ c. search needs)
+    (λ c. search needs)
     mend-both-requires
-    same-length
+    (λ c. search needs)
     returns-2)

@@ -19,6 +19,6 @@ taken-spec =
     let b = c .before .before .before .before .before in
     let a = b .args in
     let n = length (a .out .now) in
-    (b .pre .0, (b .pre .1, tail-part (a .from) n (a .from + n) (a .s .now) (c .before .tail-of .result) refl (c .before .tail-of .ensures))))
+    (b .pre, tail-part (a .from) n (a .from + n) (a .s .now) (c .before .tail-of .result) refl (c .before .tail-of .ensures)))
     (λ c. search needs)
     (λ c. c .before .before .taken-with .ensures))

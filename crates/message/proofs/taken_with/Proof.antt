@@ -1,4 +1,3 @@
-use mathlib.Core.Path.{refl}
 use borrow.Author.Needs.{needs}
 use lib.ListN.{length, drop}
 use Rattle.code.specs.BelowLaws.{below-take, below-drop}
@@ -14,4 +13,4 @@ taken-with-spec =
     (λ c.
     let b = c .before .before .before .before .before .before in
     let a = b .args in
-    (refl, c .before .before .copy .ensures, b .pre .1 .1, below-take (length (a .out .now)) (drop (a .from) (a .s .now)) (below-drop (a .from) (a .s .now) (b .pre .1 .0)))))
+    (c .before .before .copy .ensures, b .pre .1, below-take (length (a .out .now)) (drop (a .from) (a .s .now)) (below-drop (a .from) (a .s .now) (b .pre .0 .0 .symbols)))))

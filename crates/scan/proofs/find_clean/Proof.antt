@@ -1,10 +1,11 @@
-use mathlib.Core.Path.{_≡_, refl, sym, _∙_}
+use mathlib.Core.Path.{_≡_, refl, sym, ap, _∙_}
 use Prim.Native.Nat.{_+_, _-_, _≤_}
 use native.Mathlib.Omega.{arith}
 use borrow.Author.Tests.{not-true, not-false}
 use lib.ListN.{length, drop}
 use Rattle.code.specs.Reading.{clean}
 use Rattle.compare.specs.OffsetsLaws.{tried-small}
+use Rattle.scan.specs.declared.Next.the-variants.{Clean}
 use Rattle.scan.specs.Scans.{letterBefore}
 use Rattle.scan.specs.ScansLaws.{clean-short, letter-below}
 use Rattle.scan.proofs.Scanning.{left, left-whole, left-end, left-zero, left-pass, left-found, unmarked, marked, Compared, compared-begin, compared-turn, compared-stop, compared-end, size-is, width-small, part-long, part-tail, part-width}
@@ -61,7 +62,7 @@ letter-before-requires : tie.Need-letter-before-requires Inv-loop μ-loop Inv-st
 letter-before-requires c κs = (omega arith, omega (arith, size-is (c .before .before .before .before .before .before .before .args .k), width-small (c .before .before .before .before .before .before .before .args .k) (omega arith)))
 
 marker-stands-requires : tie.Need-marker-stands-requires Inv-loop μ-loop Inv-starts μ-starts
-marker-stands-requires c κs = let b = c .before .before .before .before .before .before .before .before in let a = b .args in let x = c .letter-before in (rw (x .ensures) (letter-below (a .received) (a .f) (a .s .now) (b .pre .0) (b .pre .1 .1 .3) (a .p + c .before .before .before .moved-by .result)), omega (arith, size-is (c .before .before .before .before .before .before .before .before .args .k), width-small (c .before .before .before .before .before .before .before .before .args .k) (omega arith)), omega arith)
+marker-stands-requires c κs = let b = c .before .before .before .before .before .before .before .before in let a = b .args in let x = c .letter-before in (rw (x .ensures) (letter-below (a .received) (a .f) (a .s .now) (b .pre .0 .symbols) (b .pre .1 .1 .2) (a .p + c .before .before .before .moved-by .result)), omega (arith, size-is (c .before .before .before .before .before .before .before .before .args .k), width-small (c .before .before .before .before .before .before .before .before .args .k) (omega arith)), omega arith)
 
 starts-less-3 : tie.Need-starts-less-3 Inv-loop μ-loop Inv-starts μ-starts
 starts-less-3 c = omega arith
@@ -105,9 +106,9 @@ loop-holds c =
     let g = c .before .before .before .before .before .if3 .left in
     let room : at + (2 + a .k) ≤ length s = omega (arith, z, g, size-is (a .k)) in
     let w = part-width s at (a .k) room (e .result) (e .ensures) in
-    let l = width-small (a .k) (omega arith) in
+    let l = width-small (a .k) (c .before .before .before .before .before .before .before .before .before .before .before .before .pre .1 .1 .0 .1) in
     let x = c .before .before .before .before .letter-before in
-    let d = marked (a .k) (x .result) s at (c .before .before .before .marker-stands .result) (c .before .before .before .marker-stands .ensures) (c .before .before .before .before .before .before .before .before .before .before .before .before .pre .1 .1 .0) (not-false _ (c .before .before .if4 .left)) (e .result) (part-tail s at (a .k) room (e .result) (e .ensures)) in
+    let d = marked (a .k) (x .result) s at (c .before .before .before .marker-stands .result) (c .before .before .before .marker-stands .ensures) (c .before .before .before .before .before .before .before .before .before .before .before .before .pre .1 .1 .0 .0) (not-false _ (c .before .before .if4 .left)) (e .result) (part-tail s at (a .k) room (e .result) (e .ensures)) in
     compared-begin s (e .result) (at + (2 + a .k)) _ (omega (arith, w, l)) (omega (arith, z, g, w, size-is (a .k))) (rw (← x .ensures) d)
 
 add-loop : tie.Need-add-loop Inv-loop μ-loop Inv-starts μ-starts
@@ -154,7 +155,7 @@ returns-2 : tie.Need-returns-2 Inv-loop μ-loop Inv-starts μ-starts
 returns-2 c =
     let a = c .before .before .before .before .before .before .before .before .before .before .before .before .before .before .args in let o = c .before .before .before .before .before .before .before .before .before .before .before .starts in let m = c .before .before .before .before .before .before .before .before .before .moved-by in
     let l = c .before .loop in
-    sym (sym (left-whole (a .s .now) (a .p) (a .n) (a .k) (a .count) (a .received) (a .f)) ∙ o .inv .1 ∙ left-found (a .s .now) (a .p) (a .n) (a .k) (a .count) (a .received) (a .f) (o .tried) (m .result) (omega arith) (omega arith) (m .ensures) (omega arith) (compared-end (a .s .now) (c .before .before .tail-of .result) (a .p + m .result + (2 + a .k)) (clean (a .k) (letterBefore (a .received) (a .f) (a .s .now) (a .p + m .result)) (drop (a .p + m .result) (a .s .now))) (l .j) (l .inv) (omega arith)))
+    ap (Clean (a .p + m .result)) (c .before .before .before .before .before .before .letter-before .ensures) ∙ sym (sym (left-whole (a .s .now) (a .p) (a .n) (a .k) (a .count) (a .received) (a .f)) ∙ o .inv .1 ∙ left-found (a .s .now) (a .p) (a .n) (a .k) (a .count) (a .received) (a .f) (o .tried) (m .result) (omega arith) (omega arith) (m .ensures) (omega arith) (compared-end (a .s .now) (c .before .before .tail-of .result) (a .p + m .result + (2 + a .k)) (clean (a .k) (letterBefore (a .received) (a .f) (a .s .now) (a .p + m .result)) (drop (a .p + m .result) (a .s .now))) (l .j) (l .inv) (omega arith)))
 
 pub find-clean-spec : {M : Type 1} → statement M
 find-clean-spec =

@@ -17,7 +17,7 @@ sub-i : tie.Need-sub-i Inv-loop μ-loop
 sub-i c = omega arith
 
 mul-out : tie.Need-mul-out Inv-loop μ-loop
-mul-out c = let x = mask-lt (c .before .loop .h) 1 in omega arith
+mul-out c = let x = mask-lt (c .before .loop .h) 1 in let y = mask-lt (c .before .loop .l) 1 in omega arith
 
 add-out : tie.Need-add-out Inv-loop μ-loop
 add-out c = let x = mask-lt (c .before .loop .h) 1 in let y = mask-lt (c .before .loop .l) 1 in omega arith

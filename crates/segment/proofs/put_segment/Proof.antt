@@ -1,6 +1,7 @@
 use mathlib.Core.Path.{_∙_}
 use native.Mathlib.Omega.{arith}
 use lib.ListN.{length}
+use Rattle.code.specs.Bounds.{widest}
 use Rattle.code.specs.LayersLaws.{width-least}
 use Rattle.segment.proofs.Parts.{mark-size, put-parts}
 use borrow.Author.Needs.{needs}
@@ -20,7 +21,7 @@ put-tail-requires : tie.Need-put-tail-requires
 put-tail-requires c κs =
     let a = c .before .before .before .before .before .before .before .before .before .before .before .args in
     let e = c .before .before .before .before .before .before .before .before .before .before .before .pre .0 in
-    (omega (arith, e .width, width-least (length (a .message .now)) .least 16 (omega arith)), omega (arith, e .width, mark-size (c .before .before .before .before .before .before .before .before .before .before .before .args .marked) (c .before .before .before .before .before .before .before .before .before .before .before .args .f) (c .before .before .before .before .before .before .before .before .before .before .before .args .message .now), c .before .before .before .before .before .before .before .put-marker .ensures .1))
+    (omega (arith, e .width, width-least (length (a .message .now)) .least widest (omega arith)), omega (arith, e .width, mark-size (c .before .before .before .before .before .before .before .before .before .before .before .args .marked) (c .before .before .before .before .before .before .before .before .before .before .before .args .f) (c .before .before .before .before .before .before .before .before .before .before .before .args .message .now), c .before .before .before .before .before .before .before .put-marker .ensures .1))
 
 same-length : tie.Need-same-length
 same-length c = search needs
@@ -30,7 +31,7 @@ returns c =
     let a = c .before .before .before .before .before .before .before .before .before .before .before .before .before .before .args in
     let h = c .before .before .before .before .before .before .before .before .before .before .before .before .before .before .pre in
     let k = c .before .before .before .before .before .before .before .before .before .before .put-marker in
-    c .before .before .put-tail .ensures ∙ put-parts (a .out .now) _ _ (a .message .now) (a .marked) (a .f) (a .at) (k .result) (a .tail) (h .0) (h .1 .3) (k .ensures .1) (k .ensures .0) (c .before .before .before .before .before .before .put .ensures)
+    c .before .before .put-tail .ensures ∙ put-parts (a .out .now) _ _ (a .message .now) (a .marked) (a .f) (a .at) (k .result) (a .tail) (h .0) (h .1 .2) (k .ensures .1) (k .ensures .0) (c .before .before .before .before .before .before .put .ensures)
 
 pub put-segment-spec : {M : Type 1} → statement M
 put-segment-spec =

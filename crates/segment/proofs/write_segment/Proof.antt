@@ -1,6 +1,7 @@
 use mathlib.Core.Path.{_∙_}
 use native.Mathlib.Omega.{arith}
 use lib.ListN.{length}
+use Rattle.code.specs.Bounds.{widest}
 use Rattle.code.specs.LayersLaws.{width-least}
 use Rattle.code.specs.SegmentLaws.{width-two}
 use Rattle.tail.proofs.Tails.{tail-last}
@@ -18,7 +19,7 @@ last-of-requires : tie.Need-last-of-requires
 last-of-requires c κs =
     let n = length (c .before .before .before .before .before .before .before .args .message .now) in
     let e = c .before .before .before .before .tail-of .ensures in
-    (omega (arith, e .width, width-two n (omega arith)), omega (arith, e .width, width-least n .least 16 (omega arith)))
+    (omega (arith, e .width, width-two n (omega arith)), omega (arith, e .width, width-least n .least widest (omega arith)))
 
 same-length : tie.Need-same-length
 same-length c = search needs

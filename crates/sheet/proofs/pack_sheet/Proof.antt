@@ -5,7 +5,7 @@ use native.Mathlib.Omega.{arith}
 use lib.ListN.{length, take, drop, length-set}
 use Rattle.code.specs.Lists.{write-all}
 use Rattle.code.specs.Strands.{sheetOf}
-use Rattle.sheet.specs.SheetLaws.{length-sheet}
+use Rattle.code.specs.ReadCallLaws.{length-sheet}
 use Rattle.sheet.proofs.Steps.{sheet-step}
 use Rattle.sheet.proofs.pack_sheet.Statement.{statement}
 use Rattle.sheet.proofs.pack_sheet.Tie as tie

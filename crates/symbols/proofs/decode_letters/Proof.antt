@@ -1,14 +1,12 @@
-use mathlib.Core.Path.{_≡_, refl, sym, ap, _∙_}
+use mathlib.Core.Path.{_≡_, refl, _∙_}
 use mathlib.Core.Bool.{true}
 use mathlib.Core.List.{_++_}
 use Prim.Native.Nat.{_+_, _-_, _<_, _≤_}
 use native.Mathlib.Omega.{arith}
-use lib.ListN.{length, getD, take, drop, length-set}
-use Rattle.code.specs.declared.Letter.the-variants.{Symbol}
+use lib.ListN.{length, take, drop, length-set}
 use Rattle.code.specs.Lists.{write-next, write-all}
 use Rattle.code.specs.Symbols.{legible}
-use Rattle.symbols.specs.Codes.{allLetters}
-use Rattle.symbols.proofs.Codes.{letter-bits}
+use Rattle.symbols.specs.Letters.{allLetters}
 use Rattle.symbols.proofs.Steps.{Letters, none-read, legible-next, one-more, verdict-whole, length-whole, letters-next}
 use Rattle.symbols.proofs.decode_letters.Statement.{statement}
 use Rattle.symbols.proofs.decode_letters.Tie as tie
@@ -29,7 +27,9 @@ decode-letters-spec =
     let a = c .before .before .args in
     (omega arith, refl, refl, none-read (a .letters .now), c .before .before .pre .0))
     (λ c. omega arith)
-    (λ c κs. tt)
+    (λ c κs.
+    let l = c .before .before .loop in
+    letters-next (c .before .before .before .before .before .args .letters .now) (l .i) (omega arith) (l .inv .4) .0)
     (λ c. omega arith)
     (λ c. omega arith)
     (λ c. omega arith)
@@ -39,13 +39,12 @@ decode-letters-spec =
     let cs = a .letters .now in
     let h : l .i < length cs = omega arith in
     let s = c .bits-of .result in
-    let n = letters-next cs (l .i) h (l .inv .4) in
-    let e = letter-bits (getD cs (l .i) 0) (n .0) ∙ ap Symbol (sym (c .bits-of .ensures)) in (
+    let e = c .bits-of .ensures in (
       omega arith,
       simp length-set (l .inv .1),
       rw (l .inv .2) (write-next (legible cs) _ (a .out .now) (l .i) s (legible-next cs (l .i) (l .inv .3) h s e) (omega arith)),
       one-more cs (l .i) (l .inv .3) h s e,
-      n .1,
+      letters-next cs (l .i) h (l .inv .4) .1,
     ))
     (λ c. omega arith)
     (λ c.

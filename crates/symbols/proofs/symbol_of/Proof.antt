@@ -1,6 +1,5 @@
-use mathlib.Core.Path.{sym}
-use native.Mathlib.Omega.{arith}
-use Rattle.symbols.proofs.Codes.{code-symbol, code-foreign}
+use mathlib.Core.Path.{sym, _∙_}
+use Rattle.symbols.proofs.Bits.{no-letter}
 use Rattle.symbols.proofs.symbol_of.Statement.{statement}
 use Rattle.symbols.proofs.symbol_of.Tie as tie
 
@@ -9,5 +8,6 @@ symbol-of-spec =
     tie.close
     (tie.spec
     (λ c κs. tt)
-    (λ c. sym (code-symbol (c .before .before .args .letter) (c .before .code-of .result) (c .before .code-of .ensures) (λ e. omega arith)))
-    (λ c. sym (code-foreign (c .before .before .args .letter) (c .before .code-of .result) (c .before .code-of .ensures) (omega arith))))
+    (λ c κs. sym (c .before .is-letter .ensures) ∙ c .if1 .taken)
+    (λ c. sym (c .bits-of .ensures))
+    (λ c. sym (no-letter (c .before .before .args .letter) (sym (c .before .is-letter .ensures) ∙ c .if1 .left))))

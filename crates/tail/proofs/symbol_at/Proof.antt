@@ -11,7 +11,7 @@ shr-result : tie.Need-shr-result
 shr-result c = search needs
 
 mul-result : tie.Need-mul-result
-mul-result c = let a = c .args in let x = mask-lt (a .high / 2 ^ a .i) 1 in omega arith
+mul-result c = let a = c .args in let x = mask-lt (a .high / 2 ^ a .i) 1 in let y = mask-lt (a .low / 2 ^ a .i) 1 in omega arith
 
 shr-result-2 : tie.Need-shr-result-2
 shr-result-2 c = search needs

@@ -1,5 +1,4 @@
 use borrow.Author.Needs.{needs}
-use native.Mathlib.Omega.{arith}
 use Rattle.tail.proofs.tail_of.Statement.{statement}
 use Rattle.tail.proofs.tail_of.Tie as tie
 
@@ -8,5 +7,5 @@ tail-of-spec =
     tie.close
     (tie.spec
     (λ c κs. search needs)
-    (λ c κs. (omega arith, omega arith, c .sums .ensures))
+    (λ c κs. (c .before .before .pre, c .sums .ensures))
     (λ c. c .tail-with .ensures))

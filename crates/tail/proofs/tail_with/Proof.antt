@@ -2,6 +2,7 @@ use mathlib.Core.Path.{_≡_, ap}
 use Prim.Native.Nat.{_-_}
 use native.Mathlib.Omega.{arith}
 use lib.ListN.{length}
+use Rattle.code.specs.Bounds.{widest}
 use Rattle.code.specs.LayersLaws.{width-least}
 use Rattle.code.specs.SegmentLaws.{check-below, width-two}
 use Rattle.layers.specs.declared.Summed.{Summed}
@@ -17,22 +18,22 @@ width-of-requires : tie.Need-width-of-requires
 width-of-requires c κs = search needs
 
 syndromes-requires : tie.Need-syndromes-requires
-syndromes-requires c κs = (omega arith, omega arith, ap (λ (s : Summed). s .places) (c .before .before .pre .2))
+syndromes-requires c κs = (omega arith, omega arith, ap (λ (s : Summed). s .places) (c .before .before .pre .1))
 
 sub-symbol-at : tie.Need-sub-symbol-at
 sub-symbol-at c = omega (arith, c .before .width-of .ensures, width-two (length (c .before .before .before .args .message .now)) (omega arith))
 
 symbol-at-requires : tie.Need-symbol-at-requires
-symbol-at-requires c κs = omega (arith, c .before .width-of .ensures, width-least (length (c .before .before .before .args .message .now)) .least 16 (omega arith), width-two (length (c .before .before .before .args .message .now)) (omega arith))
+symbol-at-requires c κs = omega (arith, c .before .width-of .ensures, width-least (length (c .before .before .before .args .message .now)) .least widest (omega arith), width-two (length (c .before .before .before .args .message .now)) (omega arith))
 
 sub-symbol-at-2 : tie.Need-sub-symbol-at-2
 sub-symbol-at-2 c = omega (arith, c .before .before .width-of .ensures, width-two (length (c .before .before .before .before .args .message .now)) (omega arith))
 
 symbol-at-requires-2 : tie.Need-symbol-at-requires-2
-symbol-at-requires-2 c κs = omega (arith, c .before .before .width-of .ensures, width-least (length (c .before .before .before .before .args .message .now)) .least 16 (omega arith), width-two (length (c .before .before .before .before .args .message .now)) (omega arith))
+symbol-at-requires-2 c κs = omega (arith, c .before .before .width-of .ensures, width-least (length (c .before .before .before .before .args .message .now)) .least widest (omega arith), width-two (length (c .before .before .before .before .args .message .now)) (omega arith))
 
 sep-of-requires : tie.Need-sep-of-requires
-sep-of-requires c κs = omega (arith, checks (c .before .before .before .before .before .pre .2), check-below (c .before .before .before .before .before .args .message .now))
+sep-of-requires c κs = omega (arith, checks (c .before .before .before .before .before .pre .1), check-below (c .before .before .before .before .before .args .message .now))
 
 returns : tie.Need-returns
 returns c =
@@ -44,7 +45,7 @@ returns c =
     let y = c .before .symbol-at2 in
     let two = width-two (length (c .before .before .before .before .before .before .args .message .now)) (omega arith) in
     let whole = syndromes-paired m (s .result) (w .result) (w .ensures) (s .ensures) in
-    is-tail m _ _ (w .result) (s .result .high) (s .result .low) (x .result) (y .result) (checks (b .pre .2)) (w .ensures) whole
+    is-tail m _ _ (w .result) (s .result .high) (s .result .low) (x .result) (y .result) (checks (b .pre .1)) (w .ensures) whole
     (symbol-from m (w .result) (s .result .high) (s .result .low) 0 (w .result - 1) _ whole (omega (arith, w .ensures, two)) (omega arith) (x .ensures))
     (symbol-from m (w .result) (s .result .high) (s .result .low) 1 (w .result - 2) _ whole (omega (arith, w .ensures, two)) (omega arith) (y .ensures))
     (c .sep-of .ensures)

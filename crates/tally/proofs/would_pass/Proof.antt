@@ -1,4 +1,5 @@
 use native.Mathlib.Omega.{arith}
+use Rattle.code.specs.Tallies.{mostCount}
 use borrow.Author.Needs.{needs}
 use Rattle.tally.proofs.Counts.{room-test}
 use Rattle.tally.proofs.would_pass.Statement.{statement}
@@ -9,4 +10,4 @@ would-pass-spec =
     tie.close
     (tie.spec
     (λ c. search needs)
-    (λ c. room-test 4294967295 (c .args .count) (c .args .n) (omega arith)))
+    (λ c. room-test mostCount (c .args .count) (c .args .n) (omega arith)))

@@ -1,0 +1,60 @@
+-- What the C calls answer: the answers of the calls, number by number.
+--   answered      an answer told in numbers, with the buffers as the call leaves them
+--   fromWrote     the answer of a writing
+--   fromCounted   the answer of a reading
+--   fromLocated   the answer of a piece call
+--   fromOrder     the answer of a label that is read
+--   asTally       a tally as the tally call takes it
+--   fromTallied   the answer of adding to a tally
+use Prim.Native.Nat.{_-_}
+use Rattle.code.specs.declared.Wrote.{Wrote}
+use Rattle.code.specs.declared.Wrote.the-variants as W
+use Rattle.code.specs.declared.Counted.{Counted}
+use Rattle.code.specs.declared.Counted.the-variants as N
+use Rattle.code.specs.declared.Located.{Located}
+use Rattle.code.specs.declared.Located.the-variants as L
+use Rattle.code.specs.declared.Order as code-order
+use Rattle.code.specs.declared.Order.the-variants as O
+use Rattle.code.specs.declared.Tally as code-tally
+use Rattle.code.specs.declared.Tallied as code-tallied
+use Rattle.code.specs.declared.Tallied.the-variants as T
+use Rattle.code.specs.Refusals.{numberOf, placeOf}
+use Rattle.dnalm.specs.declared.Written.{Written}
+use Rattle.dnalm.specs.declared.Counts.{Counts}
+use Rattle.dnalm.specs.declared.Piece.{Piece}
+use Rattle.dnalm.specs.declared.Order.{Order}
+use Rattle.dnalm.specs.declared.Tally.{Tally}
+use Rattle.dnalm.specs.declared.Tallied.{Tallied}
+
+-- a call's answer told in numbers, with its buffers as they are
+abbrev pub answered : {A B C : Type 0} → (A → B) → A × C → B × C
+answered tell result = (tell (result .0), result .1)
+
+-- the answer of a writing
+abbrev pub fromWrote : Wrote → Written
+fromWrote (W.Letters n) = record { refusal = 0; place = 0; letters = n }
+fromWrote (W.Refused r) = record { refusal = numberOf r; place = placeOf r; letters = 0 }
+
+-- the answer of a reading
+abbrev pub fromCounted : Counted → Counts
+fromCounted (N.Counts clean corrected lost) = record { refusal = 0; place = 0; clean = clean; corrected = corrected; lost = lost }
+fromCounted (N.Refused r) = record { refusal = numberOf r; place = placeOf r; clean = 0; corrected = 0; lost = 0 }
+
+-- the answer of a piece call
+abbrev pub fromLocated : Located → Piece
+fromLocated (L.At start end) = record { refusal = 0; place = 0; start = start; length = end - start }
+fromLocated (L.Refused r) = record { refusal = numberOf r; place = placeOf r; start = 0; length = 0 }
+
+-- the answer of a label that is read
+abbrev pub fromOrder : code-order.Order → Order
+fromOrder (O.Is k b) = record { refusal = 0; k = k; b = b }
+fromOrder (O.Refused r) = record { refusal = numberOf r; k = 0; b = 0 }
+
+-- a tally as the tally call takes it
+abbrev pub asTally : Tally → code-tally.Tally
+asTally t = record { strands = t .strands; clean = t .clean; corrected = t .corrected; lost = t .lost }
+
+-- the answer of adding to t: the sum, or the refusal's number and t as it was
+abbrev pub fromTallied : Tally → code-tallied.Tallied → Tallied
+fromTallied t (T.Sum u) = record { refusal = 0; strands = u .strands; clean = u .clean; corrected = u .corrected; lost = u .lost }
+fromTallied t (T.Refused r) = record { refusal = numberOf r; strands = t .strands; clean = t .clean; corrected = t .corrected; lost = t .lost }

@@ -1,0 +1,7 @@
+pub mod Losing
+pub mod Comparing
+pub mod Stepping
+pub mod Ends
+pub mod Standing
+pub mod Markers
+pub mod Starting
