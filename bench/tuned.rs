@@ -1,5 +1,5 @@
 //! The independent reader and writer of DNA-LM strands, tuned by hand: safe Rust, no allocation.
-//! It keeps the ten reading steps of document 01, the symbols of the strand in an array of 2,048,
+//! It keeps the ten reading steps of docs/SPECIFICATION.md, the symbols of the strand in an array of 2,048,
 //! and a verdict for each segment, from which mark, sheet and counts are taken.
 
 /// A refusal by its number in the table; the place is given for 6 alone.

@@ -854,7 +854,7 @@ fn letters_of(symbols: &str) -> Vec<u8> {
         .collect()
 }
 
-/// The sample strands of document 01.
+/// The sample strands of docs/SPECIFICATION.md.
 fn samples() {
     let sample_write = |k, b, message: &[u8]| {
         let (got, strand) = library_write(k, b, message);

@@ -1,4 +1,4 @@
-//! Reader and writer of DNA-LM strands, step by step as document 01 states them.
+//! Reader and writer of DNA-LM strands, step by step as docs/SPECIFICATION.md tells them.
 
 /// A refusal by its number in the table; the place is given for 6 alone.
 #[derive(Clone, Copy, Debug, PartialEq, Eq)]

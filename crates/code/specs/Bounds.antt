@@ -12,7 +12,7 @@ use Prim.Native.Nat.{ℕ, _*_, _≤_, _<_}
 use mathlib.Core.List.{List}
 use lib.ListN.{length}
 use Rattle.code.specs.Symbols.{Below}
-use Rattle.code.specs.Refusals.{leastLength, mostLength, mostBytes, mostSegments, mostLetters}
+use Rattle.code.specs.Limits.{leastLength, mostLength, mostBytes, mostSegments, mostLetters}
 
 -- the most symbols of a message
 abbrev pub longest : ℕ

@@ -1,18 +1,17 @@
--- The one-edit conditions: they speak of the written and the received strand only.
---   received    the stretches of the edited segments, joined in order
---   hits        an edit hits separator or syndrome
---   Spared      a hit segment is last, or an untouched one follows it
---   Allowed     one edit at most for each segment, and each hit one is spared
---   OneEdit     a strand keeps the conditions: some cut and naming of edits does
+-- The one-edit conditions (SPECIFICATION.md, section 6): they speak of the written and the received strand only.
+--   received       the stretches of the edited segments, joined in order
+--   hits           an edit hits separator or syndrome
+--   NextUntouched  a hit segment is last, or an untouched one follows it
+--   Allowed        one edit at most for each segment, and each hit one is spared
+--   OneEdit        a strand keeps the conditions: some cut and naming of edits does
 use mathlib.Core.Path.{_≡_}
 use mathlib.Core.Bool.{Bool, true, false}
 use mathlib.Core.List.{List, [], _∷_, _++_}
 use Prim.Native.Nat.{ℕ, _+_}
 use lib.Dec.{leb}
 use lib.ListN.{length}
-use Rattle.code.specs.Segment.{segment, lastOf}
+use Rattle.code.specs.Segment.{segment, lastOf, dataAt}
 use Rattle.code.specs.Edits.{applied, Fits}
-use Rattle.code.specs.Reading.{dataAt}
 use Rattle.code.specs.declared.Edit.{Edit}
 use Rattle.code.specs.declared.Edit.the-variants.{None, Sub, Del, Ins}
 
@@ -34,10 +33,10 @@ hits marked k (Del i x) = leb (separatorPlace marked k) i
 hits marked k (Ins i x) = leb (separatorPlace marked k) i
 
 -- the segments that follow are none, or the first of them is untouched: its stretch equals it
-abbrev pub Spared : ℕ → List (List ℕ) → List Edit → Type 0
-Spared f [] es = Unit {0}
-Spared f (m ∷ ms) [] = ⊥
-Spared f (m ∷ ms) (e ∷ es) = applied e (segment true f m) ≡ segment true f m
+abbrev pub NextUntouched : ℕ → List (List ℕ) → List Edit → Type 0
+NextUntouched f [] es = Unit {0}
+NextUntouched f (m ∷ ms) [] = ⊥
+NextUntouched f (m ∷ ms) (e ∷ es) = applied e (segment true f m) ≡ segment true f m
 
 -- an edit for each segment, and each segment that is hit in separator or syndrome is last or directly followed by an untouched one
 abbrev pub Allowed : Bool → ℕ → List (List ℕ) → List Edit → Type 0
@@ -45,7 +44,7 @@ Allowed marked f [] [] = Unit {0}
 Allowed marked f [] (e ∷ es) = ⊥
 Allowed marked f (m ∷ ms) [] = ⊥
 Allowed marked f (m ∷ ms) (e ∷ es) =
-    Fits e (length (segment marked f m)) × (hits marked (length m) e ≡ true → Spared (lastOf m) ms es) × Allowed true (lastOf m) ms es
+    Fits e (length (segment marked f m)) × (hits marked (length m) e ≡ true → NextUntouched (lastOf m) ms es) × Allowed true (lastOf m) ms es
 
 -- the strand s comes from the written strand of the messages within the conditions
 pub record OneEdit (ms : List (List ℕ)) (s : List ℕ) : Type 0 where

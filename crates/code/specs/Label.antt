@@ -1,10 +1,10 @@
--- The label of a strand: edition 4 bits, k 7, B 8, and 13 spare zero bits, most significant first.
---   labelNumber   the label as a number of 32 bits
---   labelBytes    the label's four bytes
---   numberOf4     the number that four bytes write
---   labelTest     the tests of a label that is written, 1, 2, 3 and 5
---   labelCall     what writing a label answers, and the lent buffer afterwards
---   orderOf       what a label that is read answers, by the tests 5, 8, 1, 2 and 3
+-- The label of a strand (SPECIFICATION.md, table 7): edition 4 bits, k 7, B 8, and 13 spare zero bits, most significant first.
+--   labelNumber     the label as a number of 32 bits
+--   labelBytes      the label's four bytes
+--   numberOf4       the number that four bytes write
+--   labelWriteTest  the tests of a label that is written, 1, 2, 3 and 5
+--   labelCall       what writing a label answers, and the lent buffer afterwards
+--   orderOf         what a label that is read answers, by the tests 5, 8, 1, 2 and 3
 use mathlib.Core.Bool.{false, not, _||_}
 use mathlib.Core.List.{List, [], _∷_}
 use Prim.Native.Nat.{ℕ, _+_, _*_, _/_, _%_, _^_}
@@ -16,7 +16,7 @@ use Rattle.code.specs.declared.Checked.the-variants.{Fine, Refused}
 use Rattle.code.specs.declared.Order.{Order}
 use Rattle.code.specs.declared.Order.the-variants as O
 use Rattle.code.specs.Refusals.{refuse, unlessRefused, orderTest}
-use Rattle.code.specs.Writing.{overFront}
+use Rattle.code.specs.Buffers.{overFront}
 
 -- the label as a number: edition 1, k and B
 abbrev pub labelNumber : ℕ → ℕ → ℕ
@@ -48,20 +48,20 @@ abbrev pub spareOf : ℕ → ℕ
 spareOf n = n % 2 ^ 13
 
 -- the tests of a label for k and B written to a buffer of n bytes
-abbrev pub labelTest : ℕ → ℕ → ℕ → Checked
-labelTest k b n = orderTest k b false (refuse (ltb n 4) ShortBuffer Fine)
+abbrev pub labelWriteTest : ℕ → ℕ → ℕ → Checked
+labelWriteTest k b n = orderTest k b false (refuse (ltb n 4) ShortBuffer Fine)
 
 -- what writing the label of k and B to a buffer answers, and the buffer afterwards: unchanged where it is refused
 abbrev pub labelCall : ℕ → ℕ → List ℕ → Checked × List ℕ
-labelCall k b out = unlessRefused (labelTest k b (length out)) (Fine, overFront (labelBytes k b) out) (λ r. (Refused r, out))
+labelCall k b out = unlessRefused (labelWriteTest k b (length out)) (Fine, overFront (labelBytes k b) out) (λ r. (Refused r, out))
 
 -- the tests of a label that is read
-abbrev pub readTest : List ℕ → Checked
-readTest bs =
+abbrev pub labelReadTest : List ℕ → Checked
+labelReadTest bs =
     refuse (ltb (length bs) 4) ShortBuffer
     (refuse (not (eqb (editionOf (numberOf4 bs)) 1) || not (eqb (spareOf (numberOf4 bs)) 0)) Label
     (orderTest (kOf (numberOf4 bs)) (bOf (numberOf4 bs)) false Fine))
 
 -- what a label that is read answers
 abbrev pub orderOf : List ℕ → Order
-orderOf bs = unlessRefused (readTest bs) (O.Is (kOf (numberOf4 bs)) (bOf (numberOf4 bs))) O.Refused
+orderOf bs = unlessRefused (labelReadTest bs) (O.Is (kOf (numberOf4 bs)) (bOf (numberOf4 bs))) O.Refused

@@ -1,4 +1,4 @@
--- The two layers of a message, and what is summed over one.
+-- The two layers of a message, and what is summed over one (SPECIFICATION.md, section 2).
 --   Word         a word of bits
 --   bit          one bit of a number
 --   layer        one layer of a list of symbols

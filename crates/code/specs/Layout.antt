@@ -11,7 +11,7 @@ use mathlib.Core.Bool.{Bool, true, false}
 use mathlib.Core.List.{List, [], _∷_, _++_}
 use Prim.Native.Nat.{ℕ, _+_, _*_, _/_, _≤_}
 use lib.ListN.{take, drop, replicate}
-use Rattle.code.specs.Refusals.{leastLength}
+use Rattle.code.specs.Limits.{leastLength}
 use Rattle.code.specs.Segment.{segment, lastOf, size}
 
 -- the number of symbols of a layout

@@ -1,5 +1,4 @@
--- What the reading call and the piece calls test, answer and write.
---   sheetBytes    the bytes of a sheet
+-- What the reading call and the piece calls test, answer and write (SPECIFICATION.md, tables 5 and 6).
 --   foreignTest   test 6 before others
 --   overlong      test 4
 --   receivedTest  the tests 1 to 4 of received letters
@@ -10,14 +9,14 @@
 --   marksFor      the marks of letters, for k and B
 --   readAs        a reading's answer and its buffers, from the outcomes
 --   readCall      the reader's answer, and both lent buffers afterwards
---   startOf       where a piece starts
+--   pieceStart    where a piece starts
 --   pieceOf       the letters of a piece
 --   pieceCall     the part that a piece call hands back, and the refusal's number and place
 --   locatedAs     where a piece stands
 --   locateCall    where the piece of a segment stands, or the refusal
 use mathlib.Core.Bool.{Bool, false, _||_}
 use mathlib.Core.List.{List, [], map}
-use Prim.Native.Nat.{ℕ, _+_, _-_, _/_}
+use Prim.Native.Nat.{ℕ, _+_, _-_}
 use lib.Dec.{ltb}
 use lib.ListN.{length, getD, take, drop}
 use Rattle.code.specs.declared.Decoded.{Decoded}
@@ -31,13 +30,11 @@ use Rattle.code.specs.declared.Located.{Located}
 use Rattle.code.specs.declared.Located.the-variants as L
 use Rattle.code.specs.Symbols.{legible, decoded, bytes}
 use Rattle.code.specs.Layout.{sum, layoutOf}
-use Rattle.code.specs.Refusals.{numberOf, placeOf, refuse, unlessRefused, mostLetters, outside, orderTest}
-use Rattle.code.specs.Writing.{overFront}
-use Rattle.code.specs.Strands.{Outcome, outcomes, messagesOf, verdictsOf, marksOf, sheetOf, countsOf}
-
--- the bytes of a sheet of l marks
-abbrev pub sheetBytes : ℕ → ℕ
-sheetBytes l = (l + 3) / 4
+use Rattle.code.specs.Limits.{mostLetters}
+use Rattle.code.specs.Refusals.{numberOf, placeOf, refuse, unlessRefused, outside, orderTest}
+use Rattle.code.specs.Buffers.{overFront}
+use Rattle.code.specs.Sheet.{marksOf, sheetOf, countsOf, sheetBytes}
+use Rattle.code.specs.Strands.{Outcome, outcomes, messagesOf, verdictsOf}
 
 -- a foreign letter is refused with its place; else what follows
 abbrev pub foreignTest : Decoded → Checked → Checked
@@ -96,8 +93,8 @@ abbrev pub piecesOf : List Outcome → List (List ℕ)
 piecesOf os = map (λ (o : Outcome). o .piece) os
 
 -- where the piece behind the first i pieces starts
-abbrev pub startOf : List Outcome → ℕ → ℕ
-startOf os i = sum (take i (map length (piecesOf os)))
+abbrev pub pieceStart : List Outcome → ℕ → ℕ
+pieceStart os i = sum (take i (map length (piecesOf os)))
 
 -- how many letters the piece behind the first i pieces has
 abbrev pub pieceLength : List Outcome → ℕ → ℕ
@@ -105,7 +102,7 @@ pieceLength os i = getD (map length (piecesOf os)) i 0
 
 -- the letters of the i-th piece, from 1: as many as the piece has, from its start on
 abbrev pub pieceOf : List Outcome → List ℕ → ℕ → List ℕ
-pieceOf os cs i = take (pieceLength os (i - 1)) (drop (startOf os (i - 1)) cs)
+pieceOf os cs i = take (pieceLength os (i - 1)) (drop (pieceStart os (i - 1)) cs)
 
 -- the piece of segment i of letters cs for k and B, with 0 and 0; or an empty part, with the refusal's number and place
 abbrev pub pieceCall : ℕ → ℕ → List ℕ → ℕ → List ℕ × (ℕ × ℕ)
@@ -116,7 +113,7 @@ pieceCall k b cs i =
 
 -- where the piece behind the first i pieces stands
 abbrev pub locatedAs : List Outcome → ℕ → Located
-locatedAs os i = L.At (startOf os i) (startOf os i + pieceLength os i)
+locatedAs os i = L.At (pieceStart os i) (pieceStart os i + pieceLength os i)
 
 -- where the piece of segment i stands, or the refusal
 abbrev pub locateCall : ℕ → ℕ → List ℕ → ℕ → Located

@@ -14,9 +14,9 @@ use Rattle.code.specs.declared.Counted.the-variants as N
 use Rattle.code.specs.Symbols.{Below, letters, symbols}
 use Rattle.code.specs.Layout.{cut, layoutOf}
 use Rattle.code.specs.Refusals.{orderTest}
-use Rattle.code.specs.Writing.{overFront}
+use Rattle.code.specs.Buffers.{overFront}
 use Rattle.code.specs.Conditions.{OneEdit}
-use Rattle.code.specs.Strands.{sheetOf, countOf}
+use Rattle.code.specs.Sheet.{sheetOf, countOf}
 use Rattle.code.specs.ReadCall.{shortBuffers, marksFor}
 
 -- k and B are an order that is taken, and the letters cs are those of symbols s that keep the one-edit conditions for the B bytes bs

@@ -1,13 +1,13 @@
--- Steps 1 to 9 of reading one segment. `s` is the received symbols from the segment's start P on; `raw` is the same letters as the tests
--- for a clean segment and the piece look at them. A place past the end matches nothing.
---   starts       a block stands at the front of a list
+-- Steps 1 to 9 of reading one segment (SPECIFICATION.md, section 4). `s` is the received symbols from the segment's start P on; `letters` is the
+-- same letters as the tests for a clean segment and the piece look at them. A place past the end matches nothing.
+--   isPrefix     a block stands at the front of a list
 --   Shift        the small numbers 0, −1 and +1 in the order in which they are tried
 --   whole        step 1
 --   separatorAt  step 2
---   got          steps 3 to 7: the message, or the step that loses it
+--   readMessage  steps 3 to 7: the message, or the step that loses it
 --   clean        a clean segment stands at the front of a list
 --   endOf        step 8
---   readOne      steps 1 to 9: message, edit and end, or the step that loses the segment
+--   readSegment  steps 1 to 9: message, edit and end, or the step that loses the segment
 use mathlib.Core.Bool.{Bool, true, false, cond, _&&_, _||_}
 use mathlib.Core.List.{List, [], _∷_}
 use mathlib.Core.Option.{Option, some, none}
@@ -16,17 +16,17 @@ use lib.Dec.{eqb, ltb}
 use lib.ListN.{length, take, drop}
 use Rattle.code.specs.Layers.{Word, layer, pair, width, number}
 use Rattle.code.specs.Repair.{repair}
-use Rattle.code.specs.Segment.{check, syndromeOf, segment, lastOf, size}
+use Rattle.code.specs.Segment.{check, syndromeOf, segment, lastOf, size, dataAt}
 use Rattle.code.specs.Edits.{judged}
 use Rattle.code.specs.declared.Edit.{Edit}
 use Rattle.code.specs.declared.Link.{Link}
 use Rattle.code.specs.declared.Link.the-variants.{Changed, More, Less}
 
 -- the block stands at the front of the list
-unfoldable pub starts : List ℕ → List ℕ → Bool
-starts [] s = true
-starts (x ∷ b) [] = false
-starts (x ∷ b) (y ∷ s) = eqb x y && starts b s
+unfoldable pub isPrefix : List ℕ → List ℕ → Bool
+isPrefix [] s = true
+isPrefix (x ∷ b) [] = false
+isPrefix (x ∷ b) (y ∷ s) = eqb x y && isPrefix b s
 
 -- two equal symbols stand at the front
 unfoldable pub twoEqual : List ℕ → Bool
@@ -60,10 +60,6 @@ abbrev pub whole : Bool → List ℕ → Bool
 whole true s = twoEqual s
 whole false s = true
 
--- D, from P: behind the marker
-abbrev pub dataAt : Bool → ℕ
-dataAt marked = cond marked 2 0
-
 -- step 2: where three equal symbols stand, from D: at k + 1 moved by 0, −1 or +1; d is the symbols from D on
 unfoldable pub separatorAt : ℕ → List ℕ → Option Shift
 separatorAt k d = firstShift (λ j. threeEqual (drop (moved j (k + 1)) d))
@@ -74,26 +70,26 @@ afterSeparator j k d = drop (moved j (k + 1) + 3) d
 
 -- the check agrees with the message m at D
 unfoldable pub checkAgrees : ℕ → List ℕ → List ℕ → Bool
-checkAgrees k d m = starts (check m ∷ []) (drop k d)
+checkAgrees k d m = isPrefix (check m ∷ []) (drop k d)
 
 -- the t symbols after the separator are the syndrome of m
 unfoldable pub syndromeAgrees : Shift → ℕ → List ℕ → List ℕ → Bool
-syndromeAgrees j k d m = starts (syndromeOf m) (afterSeparator j k d)
+syndromeAgrees j k d m = isPrefix (syndromeOf m) (afterSeparator j k d)
 
 -- a message, or the step that loses it
-pub data Got : Type 0 where
-  message : List ℕ → Got
-  lost : ℕ → Got
+pub data MessageResult : Type 0 where
+  message : List ℕ → MessageResult
+  lost : ℕ → MessageResult
 
 -- the message of two repaired layers; lost in step 7 if one has no word
-abbrev pub bothLayers : Option Word → Option Word → Got
+abbrev pub bothLayers : Option Word → Option Word → MessageResult
 bothLayers (some h) (some l) = message (pair h l)
 bothLayers (some h) none = lost 7
 bothLayers none (some l) = lost 7
 bothLayers none none = lost 7
 
 -- step 7: each layer of r is repaired with the syndrome that the first t symbols of w write; lost if they run past the end
-unfoldable pub repaired : Link → ℕ → List ℕ → List ℕ → Got
+unfoldable pub repaired : Link → ℕ → List ℕ → List ℕ → MessageResult
 repaired l t r w =
     cond (ltb (length w) t) (lost 7)
     (bothLayers (repair l (number (layer 1 (take t w))) (layer 1 r)) (repair l (number (layer 0 (take t w))) (layer 0 r)))
@@ -111,32 +107,32 @@ taken early k d m = syndromeAgrees early k d m
 taken late k d m = syndromeAgrees late k d m
 
 -- steps 4 and 5: the k symbols at D, or each layer repaired from the k, k − 1 or k + 1 symbols at D
-unfoldable pub messageAt : Shift → ℕ → List ℕ → Got
+unfoldable pub messageAt : Shift → ℕ → List ℕ → MessageResult
 messageAt j k d = cond (taken j k d (take k d)) (message (take k d)) (repaired (linkOf j) (width k) (take (moved j k) d) (afterSeparator j k d))
 
 -- step 6: with no separator the k symbols at D, if the check agrees
-unfoldable pub messageWithout : ℕ → List ℕ → Got
+unfoldable pub messageWithout : ℕ → List ℕ → MessageResult
 messageWithout k d = cond (checkAgrees k d (take k d)) (message (take k d)) (lost 6)
 
 -- steps 4 to 6: the marker is whole
-abbrev pub gotWhole : ℕ → List ℕ → Option Shift → Got
-gotWhole k d (some j) = messageAt j k d
-gotWhole k d none = messageWithout k d
+abbrev pub readWhole : ℕ → List ℕ → Option Shift → MessageResult
+readWhole k d (some j) = messageAt j k d
+readWhole k d none = messageWithout k d
 
 -- step 3: the marker is hit; the message is the k symbols before the check, which is the symbol before the separator
-abbrev pub gotHit : ℕ → List ℕ → Option Shift → Got
-gotHit k s (some j) = message (take k (drop (moved j 2) s))
-gotHit k s none = lost 3
+abbrev pub readHit : ℕ → List ℕ → Option Shift → MessageResult
+readHit k s (some j) = message (take k (drop (moved j 2) s))
+readHit k s none = lost 3
 
 -- steps 3 to 7
-unfoldable pub got : Bool → ℕ → List ℕ → Got
-got marked k s =
-    cond (whole marked s) (gotWhole k (drop (dataAt marked) s) (separatorAt k (drop (dataAt marked) s)))
-    (gotHit k s (separatorAt k (drop (dataAt marked) s)))
+unfoldable pub readMessage : Bool → ℕ → List ℕ → MessageResult
+readMessage marked k s =
+    cond (whole marked s) (readWhole k (drop (dataAt marked) s) (separatorAt k (drop (dataAt marked) s)))
+    (readHit k s (separatorAt k (drop (dataAt marked) s)))
 
 -- a clean segment of k message symbols stands at the front: exactly a segment, f being the last symbol before it
 unfoldable pub clean : ℕ → ℕ → List ℕ → Bool
-clean k f raw = starts (segment true f (take k (drop 2 raw))) raw
+clean k f letters = isPrefix (segment true f (take k (drop 2 letters))) letters
 
 -- step 8: whether the symbols after the separator settle the end
 abbrev pub settled : ℕ → List ℕ → List ℕ → Option Shift → Bool
@@ -155,30 +151,30 @@ around n none = none
 
 -- step 8: the end, from P: the strand's for the last segment; else after the syndrome if that is the message's; else where a clean next segment starts
 unfoldable pub endOf : Bool → ℕ → List ℕ → List ℕ → List ℕ → List ℕ → Option ℕ
-endOf marked k [] s raw m = some (length raw)
-endOf marked k (next ∷ ks) s raw m =
+endOf marked k [] s letters m = some (length letters)
+endOf marked k (next ∷ ks) s letters m =
     let d = drop (dataAt marked) s in
     cond (settled k d m (separatorAt k d)) (some (dataAt marked + behind k (separatorAt k d)))
-    (around (size marked k) (firstShift (λ e. clean next (lastOf m) (drop (moved e (size marked k)) raw))))
+    (around (size marked k) (firstShift (λ e. clean next (lastOf m) (drop (moved e (size marked k)) letters))))
 
 -- a segment read, with message, edit and end; or the step that loses it
-pub data One : Type 0 where
-  read : List ℕ → Edit → ℕ → One
-  lost : ℕ → One
+pub data SegmentResult : Type 0 where
+  read : List ℕ → Edit → ℕ → SegmentResult
+  lost : ℕ → SegmentResult
 
 -- step 9: the piece against the segment written anew
-abbrev pub withEdit : List ℕ → ℕ → Option Edit → One
+abbrev pub withEdit : List ℕ → ℕ → Option Edit → SegmentResult
 withEdit m o (some e) = read m e o
-withEdit m o none = One.lost 9
+withEdit m o none = SegmentResult.lost 9
 
-abbrev pub withEnd : Bool → ℕ → List ℕ → List ℕ → Option ℕ → One
-withEnd marked f raw m (some o) = withEdit m o (judged (segment marked f m) (take o raw))
-withEnd marked f raw m none = One.lost 8
+abbrev pub withEnd : Bool → ℕ → List ℕ → List ℕ → Option ℕ → SegmentResult
+withEnd marked f letters m (some o) = withEdit m o (judged (segment marked f m) (take o letters))
+withEnd marked f letters m none = SegmentResult.lost 8
 
-abbrev pub withMessage : Bool → ℕ → ℕ → List ℕ → List ℕ → List ℕ → Got → One
-withMessage marked f k ks s raw (message m) = withEnd marked f raw m (endOf marked k ks s raw m)
-withMessage marked f k ks s raw (lost step) = One.lost step
+abbrev pub withMessage : Bool → ℕ → ℕ → List ℕ → List ℕ → List ℕ → MessageResult → SegmentResult
+withMessage marked f k ks s letters (message m) = withEnd marked f letters m (endOf marked k ks s letters m)
+withMessage marked f k ks s letters (lost step) = SegmentResult.lost step
 
 -- steps 1 to 9 of a segment of k message symbols; ks are the lengths of those after it
-unfoldable pub readOne : Bool → ℕ → ℕ → List ℕ → List ℕ → List ℕ → One
-readOne marked f k ks s raw = withMessage marked f k ks s raw (got marked k s)
+unfoldable pub readSegment : Bool → ℕ → ℕ → List ℕ → List ℕ → List ℕ → SegmentResult
+readSegment marked f k ks s letters = withMessage marked f k ks s letters (readMessage marked k s)

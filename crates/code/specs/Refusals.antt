@@ -1,14 +1,14 @@
--- What is turned down, and the limits.
+-- What is turned down (SPECIFICATION.md, table 4), and the tests of an order.
 --   numberOf        the paper's number of a refusal
 --   placeOf         the place that a refusal names
 --   testNumber      the number of a test's outcome
 --   refuse          a test before others
 --   unlessRefused   what is answered after the tests
---   limits          k, B, the number of segments, the received strand, the written strand
 --   orderTest       the tests 1, 2 and 3 of k and B
 use mathlib.Core.Bool.{Bool, true, false, not, _||_}
 use Prim.Native.Nat.{ℕ, _*_, _/_, _%_}
 use lib.Dec.{eqb, ltb}
+use Rattle.code.specs.Limits.{leastLength, mostLength, mostBytes, mostSegments}
 use Rattle.code.specs.declared.Refusal.{Refusal}
 use Rattle.code.specs.declared.Refusal.the-variants.{SegmentLength, MessageSize, Cut, Overlong, ShortBuffer, ForeignLetter, TallyFull, Label, NoSuchSegment}
 use Rattle.code.specs.declared.Checked.{Checked}
@@ -52,29 +52,6 @@ refuse false r c = c
 abbrev pub unlessRefused : {A : Type 0} → Checked → A → (Refusal → A) → A
 unlessRefused Fine taken refused = taken
 unlessRefused (Refused r) taken refused = refused r
-
--- the smallest and the largest length k of a message
-abbrev pub leastLength : ℕ
-leastLength = 2
-
-abbrev pub mostLength : ℕ
-mostLength = 64
-
--- the most bytes B of a strand's message
-abbrev pub mostBytes : ℕ
-mostBytes = 128
-
--- the most segments of a strand
-abbrev pub mostSegments : ℕ
-mostSegments = 64
-
--- the most letters of a received strand
-abbrev pub mostLetters : ℕ
-mostLetters = 2048
-
--- the most letters of a written strand
-abbrev pub mostWritten : ℕ
-mostWritten = 1150
 
 -- x is outside low .. high
 abbrev pub outside : ℕ → ℕ → ℕ → Bool

@@ -1,13 +1,13 @@
 -- The repair of one layer.
---   putIn     a list with one entry put in
---   leaveOut  a list with one entry left out
---   flips     every word with one bit changed
---   lefts     every word with one bit left out
---   puts      every word with one bit put in
---   linked    every word that a link joins to a received one
---   repair    the linked word with the written syndrome, or none
+--   putIn       a list with one entry put in
+--   leaveOut    a list with one entry left out
+--   flips       every word with one bit changed
+--   lefts       every word with one bit left out
+--   puts        every word with one bit put in
+--   linked      every word that a link joins to a received one
+--   repair      the linked word with the written syndrome, or none
 --   mendedWord  a received word mended at a place
---   mended    the word that an answer of a repair stands for
+--   mended      the word that an answer of a repair stands for
 use mathlib.Core.Bool.{Bool, true, false, not, cond}
 use mathlib.Core.List.{List, [], _∷_, _++_, map}
 use mathlib.Core.Option.{Option, some, none}

@@ -1,4 +1,4 @@
--- A written segment (document 000, Definition 1).
+-- A written segment (SPECIFICATION.md, section 2 and table 3; Definition 1 of the published paper).
 --   check         the sum of the message's symbols modulo 4
 --   sep           the separator function, Sep
 --   syndromeOf    the t syndrome symbols of a message
@@ -7,6 +7,7 @@
 --   block         a segment without its marker
 --   segment       a segment with or without its marker
 --   lastOf        the last symbol of a segment, f for the one after it
+--   dataAt        where the message stands in a segment
 --   size          the length n of a segment of k message symbols
 use mathlib.Core.Bool.{Bool, true, false, cond, _||_}
 use mathlib.Core.List.{List, [], _∷_, _++_}
@@ -56,6 +57,10 @@ segment false f m = block m
 -- the last symbol of a segment, which is that of its syndrome
 unfoldable pub lastOf : List ℕ → ℕ
 lastOf m = getD (syndromeOf m) (width (length m) - 1) 0
+
+-- where the message stands in a segment: behind the marker
+abbrev pub dataAt : Bool → ℕ
+dataAt marked = cond marked 2 0
 
 -- n: k + t + 6 with the marker, k + t + 4 without
 unfoldable pub size : Bool → ℕ → ℕ

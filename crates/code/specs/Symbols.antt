@@ -1,4 +1,4 @@
--- Letters, symbols and bytes.
+-- Letters, symbols and bytes (SPECIFICATION.md, table 1 and section 2).
 --   Below      every entry of a list is below a number
 --   letterOf   the letter of a symbol
 --   symbolOf   what a byte is: a letter with its symbol, or no letter

@@ -1,13 +1,12 @@
--- What the writer tests, answers and writes.
+-- What the writer tests, answers and writes (SPECIFICATION.md, tables 5 and 6).
 --   strandOf    the letters of the strand that carries some bytes
 --   writeTest   the tests 1, 2, 3 and 5
---   overFront   a lent buffer with new bytes at its front
 --   writeCall   the writer's answer, and the lent buffer afterwards
 use mathlib.Core.Bool.{false, not}
-use mathlib.Core.List.{List, _++_}
+use mathlib.Core.List.{List}
 use Prim.Native.Nat.{ℕ}
 use lib.Dec.{eqb, ltb}
-use lib.ListN.{length, drop}
+use lib.ListN.{length}
 use Rattle.code.specs.declared.Refusal.the-variants.{ShortBuffer}
 use Rattle.code.specs.declared.Checked.{Checked}
 use Rattle.code.specs.declared.Checked.the-variants.{Fine}
@@ -16,6 +15,7 @@ use Rattle.code.specs.declared.Wrote.the-variants as W
 use Rattle.code.specs.Symbols.{letters, symbols}
 use Rattle.code.specs.Layout.{cut, strand, extent, layoutOf}
 use Rattle.code.specs.Refusals.{refuse, unlessRefused, orderTest}
+use Rattle.code.specs.Buffers.{overFront}
 
 -- the letters of the strand that carries bytes on a layout
 unfoldable pub strandOf : List ℕ → List ℕ → List ℕ
@@ -24,10 +24,6 @@ strandOf ks bs = letters (strand (cut ks (symbols bs)))
 -- the tests of an order: bytes bs for k and B, and a buffer of n bytes
 abbrev pub writeTest : ℕ → ℕ → List ℕ → ℕ → Checked
 writeTest k b bs n = orderTest k b (not (eqb (length bs) b)) (refuse (ltb n (extent false (layoutOf k b))) ShortBuffer Fine)
-
--- new bytes at the front of a buffer, whose rest is unchanged
-abbrev pub overFront : List ℕ → List ℕ → List ℕ
-overFront new old = new ++ drop (length new) old
 
 -- what writing bytes bs for k and B to a buffer answers, and the buffer afterwards: unchanged where it is refused
 abbrev pub writeCall : ℕ → ℕ → List ℕ → List ℕ → Wrote × List ℕ

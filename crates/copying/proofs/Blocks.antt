@@ -11,7 +11,8 @@ use native.Mathlib.Numerals.{add-one}
 use native.Mathlib.Omega.{arith}
 use lib.ListN.{length, getD, take, drop, set, length-drop, drop-of-length-le}
 use lib.Seq.{take-suc, take-add, getD-drop, length-take-le}
-use Rattle.code.specs.Lists.{putAt, put-first, put-nothing, put-one, put-put}
+use Rattle.code.specs.Buffers.{putAt}
+use Rattle.code.specs.laws.Lists.{put-first, put-nothing, put-one, put-put}
 
 -- one more symbol of those from place i on
 pub put-next : (s d : List ℕ) (i j n k m : ℕ) → k ≡ i + n → m ≡ j + n → k < length s → m < length d → set (putAt d j (take n (drop i s))) m (getD s k 0) ≡ putAt d j (take (n + 1) (drop i s))

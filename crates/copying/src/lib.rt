@@ -1,8 +1,8 @@
-// Blocks of symbols, copied.
+// Blocks of symbols, copied; and zeros.
 ghost use mathlib.Core.Path.{_≡_};
 ghost use Prim.Native.Nat.{_+_, _≤_};
-ghost use lib.ListN.{length, take, drop};
-ghost use Rattle.code.specs.Lists.{putAt};
+ghost use lib.ListN.{length, take, drop, replicate};
+ghost use Rattle.code.specs.Buffers.{putAt};
 
 // The eight symbols from place i of a block on at place j of `out`.
 fn put_eight(block: &[u8], i: usize, out: &mut [u8], j: usize)
@@ -51,4 +51,15 @@ pub fn copy(s: &[u8], from: usize, out: &mut [u8])
 {
     let to = from + out.len();
     put(&s[from..to], out, 0);
+}
+
+// Zeros throughout.
+pub fn put_zeros(out: &mut [u8])
+    ensures { λ _. ⌜ now (out .exit) ≡ replicate (length (now (out .entry))) 0 ⌝ }
+{
+    let mut i = 0;
+    while i < out.len() {
+        out[i] = 0;
+        i += 1;
+    }
 }

@@ -1,2 +1,2 @@
-pub mod Answers
-pub mod Demand3
+pub mod CallAnswers
+pub mod Demand3Counts

@@ -7,8 +7,8 @@ ghost use Rattle.code.specs.Writing.{writeCall};
 ghost use Rattle.code.specs.ReadCall.{readCall, locateCall};
 ghost use Rattle.code.specs.Label.{labelCall, orderOf};
 ghost use Rattle.code.specs.Tallies.{tallied};
-ghost use Rattle.dnalm.specs.Answers.{answered, fromWrote, fromCounted, fromLocated, fromOrder, asTally, fromTallied};
-ghost use Rattle.dnalm.specs.Demand3.{Demand-3-counts};
+ghost use Rattle.dnalm.specs.CallAnswers.{answered, fromWrote, fromCounted, fromLocated, fromOrder, asTally, fromTallied};
+ghost use Rattle.dnalm.specs.Demand3Counts.{Demand-3-counts};
 use code::Checked;
 use code::Counted;
 use code::Located;
@@ -68,12 +68,12 @@ pub struct Tallied {
     pub lost: u32,
 }
 
-// Writes a strand to the front of `out`, as `strand::write` does.
+// Writes a strand to the front of `out`, as `writer::write` does.
 #[no_mangle]
 pub extern "C" fn dnalm_write(k: u32, b: u32, message: &[u8], out: &mut [u8]) -> Written
     ensures { λ r. ⌜ (r, now (out .exit)) ≡ answered fromWrote (writeCall k b (now (message .entry)) (now (out .entry))) ⌝ }
 {
-    let wrote = strand::write(k, b, message, out);
+    let wrote = writer::write(k, b, message, out);
     match wrote {
         Wrote::Letters(n) => Written {
             refusal: 0,

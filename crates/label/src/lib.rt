@@ -2,8 +2,8 @@
 ghost use mathlib.Core.Path.{_≡_};
 ghost use Prim.Native.Nat.{_≤_};
 ghost use lib.ListN.{length};
-ghost use Rattle.code.specs.Refusals.{mostLength, mostBytes};
-ghost use Rattle.code.specs.Writing.{overFront};
+ghost use Rattle.code.specs.Limits.{mostLength, mostBytes};
+ghost use Rattle.code.specs.Buffers.{overFront};
 ghost use Rattle.code.specs.Label.{labelNumber, fourBytes, numberOf4, labelCall, orderOf};
 use code::Checked;
 use code::Order;

@@ -1,2 +1,2 @@
-pub mod Ends
-pub mod Running
+pub mod LastSymbol
+pub mod Ones

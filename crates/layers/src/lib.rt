@@ -4,7 +4,7 @@ ghost use Prim.Native.Nat.{_+_, _-_, _<_, _≤_};
 ghost use lib.ListN.{length, take};
 ghost use Rattle.code.specs.Bounds.{longest, widest};
 ghost use Rattle.code.specs.Layers.{bit, digit, sumOfPlaces, syndrome, width, number};
-ghost use Rattle.layers.specs.Answers.{both, sumsOf};
+ghost use Rattle.layers.specs.LayerSums.{both, sumsOf};
 
 // A number for each layer.
 pub struct Layers {

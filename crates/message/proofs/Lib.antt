@@ -1,4 +1,4 @@
 pub mod Separators
-pub mod Mends
-pub mod Steps
-pub mod Parts
+pub mod RepairedLayers
+pub mod Steps3to7
+pub mod ReceivedParts

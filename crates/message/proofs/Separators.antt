@@ -8,12 +8,12 @@ use native.Mathlib.Omega.{arith}
 use lib.ListN.{length, drop, length-drop}
 use lib.Seq.{drop-drop}
 use Rattle.code.specs.Reading.{threeEqual, Shift, level, early, late, moved, firstShift, separatorAt}
-use Rattle.code.specs.ReadingLaws.{at-level, at-early, at-late, at-none}
-use Rattle.compare.specs.Offsets.{triedAt}
-use Rattle.compare.specs.OffsetsLaws.{tried-level, tried-early, tried-late}
+use Rattle.code.specs.laws.Reading.{at-level, at-early, at-late, at-none}
+use Rattle.places.specs.Offsets.{triedAt}
+use Rattle.places.specs.laws.Offsets.{tried-level, tried-early, tried-late}
 use Rattle.message.specs.declared.Separator.{Separator}
 use Rattle.message.specs.declared.Separator.the-variants.{Moved, Missing}
-use Rattle.message.specs.Answers.{separatorAs, shiftOf}
+use Rattle.message.specs.MessageAnswers.{separatorAs, shiftOf}
 
 -- a number below 3 is that of its shift
 pub tried-shift : (n j : ℕ) → j < 3 → triedAt n j ≡ moved (shiftOf j) n

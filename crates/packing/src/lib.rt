@@ -40,7 +40,7 @@ fn wide(x: u8) -> u32
 }
 
 // Four symbols from place i on as one word, the first in its lowest byte.
-fn word_at(symbols: &[u8], i: usize) -> u32
+fn four_at(symbols: &[u8], i: usize) -> u32
     requires { ⌜ i + 4 ≤ length (now symbols) ⌝ }
     ensures { λ r. do let s = now (symbols .entry) in ⌜ r ≡ wordOf (getD s i 0) (getD s (i + 1) 0) (getD s (i + 2) 0) (getD s (i + 3) 0) ⌝ }
 {
@@ -76,7 +76,7 @@ pub fn pack(symbols: &[u8], out: &mut [u8])
     let n = symbols.len() / 4;
     let mut i = 0;
     while i < n {
-        out[i] = pack_word(word_at(symbols, 4 * i));
+        out[i] = pack_word(four_at(symbols, 4 * i));
         i += 1;
     }
 }

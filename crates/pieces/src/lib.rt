@@ -1,11 +1,41 @@
-// The piece calls, on letters.
+// The piece calls.
 use code::Checked;
 use code::Decoded;
 use code::Located;
 use code::Refusal;
-use received::received_test;
+use reading::read_equal;
+use refusal::received_test;
 ghost use mathlib.Core.Path.{_≡_};
-ghost use Rattle.code.specs.ReadCall.{pieceCall, locateCall};
+ghost use Prim.Native.Nat.{_<_};
+ghost use lib.ListN.{replicate};
+ghost use Rattle.code.specs.Bounds.{Received, Equal};
+ghost use Rattle.code.specs.Strands.{outcomes};
+ghost use Rattle.code.specs.ReadCall.{locatedAs, pieceCall, locateCall};
+
+// Where the i-th of l pieces stands, from 0, in symbols read as segments of k symbols.
+fn span_of(k: usize, l: usize, s: &[u8], i: usize) -> Located
+    requires { ⌜ Received (now s) ⌝ }
+    requires { ⌜ Equal k l × (i < l) ⌝ }
+    ensures { λ r. ⌜ r ≡ locatedAs (outcomes (replicate l k) (now (s .entry))) i ⌝ }
+{
+    let mut symbols = [0u8; 512];
+    let mut verdicts = [0u32; 64];
+    let mut ends = [0usize; 64];
+    let n = l * k;
+    read_equal(
+        k,
+        l,
+        s,
+        &mut symbols[..n],
+        &mut verdicts[..l],
+        &mut ends[..l],
+    );
+    let end = ends[i];
+    if i == 0 {
+        return Located::At(0, end);
+    }
+    Located::At(ends[i - 1], end)
+}
 
 // Answers where the piece of a segment starts and where it ends, the segments being counted from 1; for callers that take places
 // and not a part.
@@ -27,7 +57,7 @@ pub fn locate(k: u32, b: u32, letters: &[u8], segment: u32) -> Located
         return Located::Refused(Refusal::NoSuchSegment);
     }
     let n = letters.len();
-    equal_segments::span_of(k as usize, l as usize, &s[..n], segment as usize - 1)
+    span_of(k as usize, l as usize, &s[..n], segment as usize - 1)
 }
 
 // Hands back the piece of a segment, from 1: its stretch of the caller's own `letters`, received for k and B; `number` and

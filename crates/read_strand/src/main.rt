@@ -1,61 +1,73 @@
 // Reads two lines, a label and a strand, and prints the message in hexadecimal digits and the counts; or `refused` and the number.
 use code::Counted;
 use code::Order;
-use desk::word;
-use hex::Hex;
+use console::Input;
+use console::put_refused;
+use text::decimal::put_named;
+use text::hex::put_hex;
+use text::lines::behind;
+use text::lines::front;
+use text::lines::line;
+use text::put::put;
+ghost use mathlib.Core.Path.{_≡_};
+ghost use Prim.Native.Nat.{_+_, _≤_};
+ghost use lib.ListN.{length, take};
+ghost use Rattle.code.specs.declared.Order.the-variants as O;
+ghost use Rattle.text.specs.Put.{Appended};
+ghost use Rattle.read_strand.specs.ReadOutput.{countsLine, countsRoom, readText, readOutput, outputRoom};
 
-// The bytes of a message, in upper-case digits.
-fn print_message(message: &[u8]) {
-    let mut digits = [0u8; 256];
-    if let Hex::Bytes(n) = hex::encode(message, &mut digits) {
-        word(lines::front(&digits, n));
-    }
-    word(b"\n");
+// The line with the counts, behind the first `at` bytes of `out`; the answer is where it ends.
+fn put_counts(out: &mut [u8], at: usize, clean: u32, corrected: u32, lost: u32) -> usize
+    requires { ⌜ at + countsRoom ≤ length (now out) ⌝ }
+    ensures { λ r. ⌜ Appended (now (out .entry)) at (countsLine clean corrected lost) (now (out .exit)) r ⌝ }
+{
+    let first = put_named(out, at, b"clean ", clean as u64);
+    let second = put_named(out, first, b" corrected ", corrected as u64);
+    let third = put_named(out, second, b" lost ", lost as u64);
+    put(out, third, b"\n")
 }
 
-// The line with the counts.
-fn print_counts(clean: u32, corrected: u32, lost: u32) {
-    word(b"clean ");
-    desk::number(clean);
-    word(b" corrected ");
-    desk::number(corrected);
-    word(b" lost ");
-    desk::number(lost);
-    word(b"\n");
-}
-
-// What a strand is read as, for k and B.
-fn print_strand(k: u32, b: u32, letters: &[u8]) {
+// What letters are read as, for k and B, at the front of `out`; the answer is where it ends.
+fn put_reading(out: &mut [u8], k: u32, b: u32, letters: &[u8]) -> usize
+    requires { ⌜ outputRoom ≤ length (now out) ⌝ }
+    ensures { λ r. ⌜ Appended (now (out .entry)) 0 (readText (O.Is k b) (now (letters .entry))) (now (out .exit)) r ⌝ }
+{
     let mut message = [0u8; 128];
     let mut sheet = [0u8; 16];
     match reader::read(k, b, letters, &mut message, &mut sheet) {
         Counted::Counts(clean, corrected, lost) => {
-            print_message(lines::front(&message, b as usize));
-            print_counts(clean, corrected, lost);
+            let digits = put_hex(out, 0, front(&message, b as usize));
+            let next = put(out, digits, b"\n");
+            put_counts(out, next, clean, corrected, lost)
         }
-        Counted::Refused(r) => desk::refuse(r),
+        Counted::Refused(r) => put_refused(out, 0, r),
     }
 }
 
-// The same for the input's first two lines.
-fn print_input(input: &[u8]) {
-    let end = lines::line_end(input, 0);
-    let next = lines::next_line(input, end);
-    let last = lines::line_end(input, next);
-    match desk::order_of(&input[0..end]) {
-        Order::Is(k, b) => print_strand(k, b, &input[next..last]),
-        Order::Refused(r) => desk::refuse(r),
+// All that is printed for an input, at the front of `out`; the answer is its length.
+fn output(input: &[u8], out: &mut [u8]) -> usize
+    requires { ⌜ outputRoom ≤ length (now out) ⌝ }
+    ensures { λ r. ⌜ take r (now (out .exit)) ≡ readOutput (now (input .entry)) ⌝ }
+{
+    match console::order_of(line(input)) {
+        Order::Is(k, b) => put_reading(out, k, b, line(behind(input))),
+        Order::Refused(r) => put_refused(out, 0, r),
     }
 }
 
 // The buffer holds every pair of lines that is taken; a line that it does not hold whole is refused as too long.
 fn main() {
-    if desk::is_wrong_use(
+    if console::is_wrong_use(
         b"read_strand takes no arguments. It reads two lines: a label in eight hexadecimal digits, and a strand in the letters A, T, C and G.\n",
     ) {
         return;
     }
-    let mut input = io::buffer();
-    let n = io::read_full(0, &mut input);
-    print_input(&input[..n]);
+    let mut input = [0u8; 4096];
+    let got = console::read_input(&mut input, b"read_strand: reading the input");
+    let Input::Bytes(n) = got else {
+        return;
+    };
+    let mut out = [0u8; 311];
+    let end = output(front(&input, n), &mut out);
+    console::write_output(front(&out, end), b"read_strand: writing the output");
 }

@@ -14,11 +14,12 @@ use Rattle.code.specs.declared.Checked.the-variants.{Fine}
 use Rattle.code.specs.declared.Counted.{Counted}
 use Rattle.code.specs.Symbols.{legible}
 use Rattle.code.specs.Layout.{layoutOf}
-use Rattle.code.specs.RefusalsLaws.{or-false, Ordered}
+use Rattle.code.specs.laws.Refusals.{or-false, Ordered}
 use Rattle.code.specs.Strands.{outcomes}
-use Rattle.code.specs.ReadCall.{sheetBytes, shortBuffers, readTest, readAs, readCall}
+use Rattle.code.specs.Sheet.{sheetBytes}
+use Rattle.code.specs.ReadCall.{shortBuffers, readTest, readAs, readCall}
 use Rattle.code.specs.ReadDemand.{Demand-3-call}
-use Rattle.code.specs.ReadDemandLaws.{demand-3-call}
+use Rattle.code.specs.laws.ReadDemand.{demand-3-call}
 
 -- the test of both buffers, for l segments
 pub short-is : (k b n m : ℕ) (r : Bool) → r ≡ (ltb n b || ltb m (sheetBytes (4 * b / k))) → shortBuffers k b n m ≡ r

@@ -1,13 +1,45 @@
-// The reading call, on letters.
+// The reading call.
 use code::Checked;
 use code::Counted;
 use code::Decoded;
 use code::Refusal;
-use received::received_test;
-use received::short_buffers;
+use reading::read_equal;
+use refusal::received_test;
+use refusal::short_buffers;
 ghost use mathlib.Core.Path.{_≡_};
-ghost use Rattle.code.specs.ReadCall.{readCall};
+ghost use Prim.Native.Nat.{_*_, _/_, _≤_};
+ghost use lib.ListN.{length, replicate};
+ghost use Rattle.code.specs.Bounds.{Received, Equal};
+ghost use Rattle.code.specs.Strands.{outcomes};
+ghost use Rattle.code.specs.Sheet.{sheetBytes};
+ghost use Rattle.code.specs.ReadCall.{readAs, readCall};
 ghost use Rattle.code.specs.ReadDemand.{Demand-3-call};
+
+// Reads l segments of k symbols: bytes at the front of `message`, marks at the front of `sheet`, and their counts.
+fn read_symbols(k: usize, l: usize, s: &[u8], message: &mut [u8], sheet: &mut [u8]) -> Counted
+    requires { ⌜ Received (now s) ⌝ }
+    requires { ⌜ Equal k l ⌝ }
+    requires { ⌜ (l * k / 4 ≤ length (now message)) × (sheetBytes l ≤ length (now sheet)) ⌝ }
+    ensures { λ r. ⌜ (r, (now (message .exit), now (sheet .exit))) ≡ readAs (outcomes (replicate l k) (now (s .entry))) (now (message .entry)) (now (sheet .entry)) ⌝ }
+{
+    let mut symbols = [0u8; 512];
+    let mut verdicts = [0u32; 64];
+    let mut ends = [0usize; 64];
+    let mut marks = [0u8; 64];
+    let n = l * k;
+    read_equal(
+        k,
+        l,
+        s,
+        &mut symbols[..n],
+        &mut verdicts[..l],
+        &mut ends[..l],
+    );
+    packing::pack(&symbols[..n], message);
+    sheet::marks_of(&verdicts[..l], &mut marks[..l]);
+    sheet::pack_sheet(&marks[..l], sheet);
+    sheet::counts_of(&marks[..l])
+}
 
 // Reads a strand: the received `letters`, written for k = `k` and B = `b`. The B bytes of the message go to the front of `message`,
 // zeros where a segment is lost; the sheet goes to the front of `sheet`, two bits for each of the l segments, the first in the
@@ -35,5 +67,5 @@ pub fn read(k: u32, b: u32, letters: &[u8], message: &mut [u8], sheet: &mut [u8]
         return Counted::Refused(Refusal::ForeignLetter(i));
     }
     let n = letters.len();
-    equal_segments::read_symbols(k as usize, l, &s[..n], message, sheet)
+    read_symbols(k as usize, l, &s[..n], message, sheet)
 }

@@ -1,25 +1,22 @@
-// The limits, the tests of an order, and what a refusal is in numbers.
+// The tests of an order and of what is received, and what a refusal is in numbers.
+pub mod limits;
+
 ghost use mathlib.Core.Path.{_≡_};
 ghost use Prim.Native.Nat.{_<_, _≤_};
+ghost use mathlib.Core.Bool.{_||_};
+ghost use lib.Dec.{ltb};
 ghost use Rattle.code.specs.Refusals as R;
+ghost use Rattle.code.specs.ReadCall as C;
+ghost use Rattle.code.specs.Limits.{mostBytes, mostSegments};
+ghost use Rattle.code.specs.Sheet.{sheetBytes};
 ghost use Rattle.code.specs.declared.Checked.the-variants.{Fine};
 use code::Checked;
 use code::Refusal;
-
-// The smallest length k of a message.
-pub const LEAST_LENGTH: u32 = 2;
-
-// The largest length k of a message.
-pub const MOST_LENGTH: u32 = 64;
-
-// The most bytes B of a strand's message.
-pub const MOST_BYTES: u32 = 128;
-
-// The most segments of a strand.
-pub const MOST_SEGMENTS: u32 = 64;
-
-// The most letters of a received strand.
-pub const MOST_LETTERS: usize = 2048;
+use limits::LEAST_LENGTH;
+use limits::MOST_BYTES;
+use limits::MOST_LENGTH;
+use limits::MOST_LETTERS;
+use limits::MOST_SEGMENTS;
 
 // x is outside low .. high.
 pub fn outside(low: u32, high: u32, x: u32) -> bool
@@ -30,7 +27,7 @@ pub fn outside(low: u32, high: u32, x: u32) -> bool
 
 // 4B is not a multiple of k, or makes more segments than a strand has.
 fn uneven(k: u32, b: u32) -> bool
-    requires { ⌜ (0 < k) × (b ≤ R.mostBytes) ⌝ }
+    requires { ⌜ (0 < k) × (b ≤ mostBytes) ⌝ }
     ensures { λ r. ⌜ r ≡ R.uneven k b ⌝ }
 {
     4 * b % k != 0 || MOST_SEGMENTS < 4 * b / k
@@ -50,6 +47,28 @@ pub fn order_test(k: u32, b: u32, other: bool) -> Checked
         return Checked::Refused(Refusal::Cut);
     }
     Checked::Fine
+}
+
+// The tests 1 to 4 of n letters received for k and B.
+pub fn received_test(k: u32, b: u32, n: usize) -> Checked
+    ensures { λ r. ⌜ r ≡ C.receivedTest k b n Fine ⌝ }
+{
+    let order = order_test(k, b, false);
+    if let Checked::Refused(r) = order {
+        return Checked::Refused(r);
+    }
+    if MOST_LETTERS < n {
+        return Checked::Refused(Refusal::Overlong);
+    }
+    Checked::Fine
+}
+
+// A message buffer of n bytes or a sheet buffer of m bytes is too short for B bytes and l segments.
+pub fn short_buffers(b: usize, l: usize, n: usize, m: usize) -> bool
+    requires { ⌜ l ≤ mostSegments ⌝ }
+    ensures { λ r. ⌜ r ≡ (ltb n b || ltb m (sheetBytes l)) ⌝ }
+{
+    n < b || m < sheet::sheet_bytes(l)
 }
 
 // The number of a refusal, 1 to 9.

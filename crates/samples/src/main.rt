@@ -99,7 +99,7 @@ fn written(k: u32, b: u32) {
     number(k as u64);
     word(b" B");
     number(b as u64);
-    match strand::write(k, b, lines::front(&message, b as usize), &mut out) {
+    match writer::write(k, b, text::lines::front(&message, b as usize), &mut out) {
         Wrote::Letters(n) => {
             word(b" letters");
             number(n as u64);
@@ -123,7 +123,13 @@ fn read(k: u32, b: u32, n: usize) {
     number(b as u64);
     word(b" letters");
     number(n as u64);
-    match reader::read(k, b, lines::front(&letters, n), &mut message, &mut sheet) {
+    match reader::read(
+        k,
+        b,
+        text::lines::front(&letters, n),
+        &mut message,
+        &mut sheet,
+    ) {
         Counted::Counts(clean, corrected, lost) => {
             word(b" clean");
             number(clean as u64);

@@ -1,2 +1,2 @@
-pub mod Scanning
+pub mod Search
 pub mod Starts

@@ -9,16 +9,16 @@ use native.Mathlib.Nat.{lt-of-not-le}
 use native.Mathlib.Omega.{arith}
 use lib.ListN.{length, drop, length-drop}
 use lib.Seq.{drop-drop}
-use Rattle.code.specs.Refusals.{mostLetters}
+use Rattle.code.specs.Limits.{mostLetters}
 use Rattle.code.specs.Bounds.{farthest, Length}
 use Rattle.code.specs.Symbols.{Below}
-use Rattle.code.specs.BelowLaws.{below-drop}
-use Rattle.code.specs.LayersLaws.{width-least}
+use Rattle.code.specs.laws.Below.{below-drop}
+use Rattle.code.specs.laws.Layers.{width-least}
 use Rattle.code.specs.Segment.{size}
-use Rattle.code.specs.SegmentLaws.{width-two}
+use Rattle.code.specs.laws.Segment.{width-two}
 use Rattle.code.specs.Reading.{clean}
 use Rattle.scan.specs.Scans.{firstClean, letterBefore, cleanFrom, searched, startOf, startFrom, Known}
-use Rattle.scan.specs.ScansLaws.{clean-short, letter-below}
+use Rattle.scan.specs.laws.Scans.{clean-short, letter-below}
 
 -- a segment's size is one that the search takes
 pub size-room : (marked : Bool) (k : ℕ) → Length k → (farthest ≤ size marked k) × (size marked k ≤ mostLetters)
@@ -27,12 +27,12 @@ size-room true k h = (omega (arith, width-two k (h .0)), omega (arith, width-lea
 size-room false k h = (omega (arith, width-two k (h .0)), omega (arith, width-least k .least 16 (omega arith)))
 
 -- a start that is found is clean
-pub clean-first : (k : ℕ) (g : ℕ → ℕ) (raw os : List ℕ) (o : ℕ) → firstClean k g raw os ≡ some o → clean k (g o) (drop o raw) ≡ true
+pub clean-first : (k : ℕ) (g : ℕ → ℕ) (letters os : List ℕ) (o : ℕ) → firstClean k g letters os ≡ some o → clean k (g o) (drop o letters) ≡ true
 unfolding firstClean
-clean-first k g raw [] o e = absurd (let z : _≡_ {A = ℕ} 0 1 = cc in omega arith)
-clean-first k g raw (x ∷ os) o e = go (clean k (g x) (drop x raw)) refl e (clean-first k g raw os o)
+clean-first k g letters [] o e = absurd (let z : _≡_ {A = ℕ} 0 1 = cc in omega arith)
+clean-first k g letters (x ∷ os) o e = go (clean k (g x) (drop x letters)) refl e (clean-first k g letters os o)
   where
-    go : (b : Bool) → clean k (g x) (drop x raw) ≡ b → cond b (some x) (firstClean k g raw os) ≡ some o → (firstClean k g raw os ≡ some o → clean k (g o) (drop o raw) ≡ true) → clean k (g o) (drop o raw) ≡ true
+    go : (b : Bool) → clean k (g x) (drop x letters) ≡ b → cond b (some x) (firstClean k g letters os) ≡ some o → (firstClean k g letters os ≡ some o → clean k (g o) (drop o letters) ≡ true) → clean k (g o) (drop o letters) ≡ true
     go true t e h = let q : x ≡ o = cc in rw (← q) t
     go false t e h = h e
 

@@ -1,3 +1,3 @@
 pub mod Scans
-pub mod ScansLaws
-pub mod ScansRuns
+pub mod ScanRuns
+pub mod laws

@@ -1,11 +1,11 @@
 -- The search for a clean segment about a place, and where reading goes on.
---   firstClean     the first start of a list where a clean segment stands
---   letterBefore   the symbol before a start
---   searched       the answer of the search
---   startOf        the start that an answer names
---   startFrom      a start counted from a place
---   placeOf        the place of the start that an answer names
---   Known          what holds of the start that an answer names
+--   firstClean    the first start of a list where a clean segment stands
+--   letterBefore  the symbol before a start
+--   searched      the answer of the search
+--   startOf       the start that an answer names
+--   startFrom     a start counted from a place
+--   nextPlace    the place of the start that an answer names
+--   Known         what holds of the start that an answer names
 use mathlib.Core.Path.{_≡_}
 use mathlib.Core.Bool.{Bool, true, cond}
 use mathlib.Core.List.{List, [], _∷_}
@@ -19,8 +19,8 @@ use Rattle.scan.specs.declared.Next.the-variants.{At, Clean, Nowhere}
 
 -- the first start o of a list where a clean segment of k message symbols stands, g o being the symbol before it
 unfoldable pub firstClean : ℕ → (ℕ → ℕ) → List ℕ → List ℕ → Option ℕ
-firstClean k g raw [] = none
-firstClean k g raw (o ∷ os) = cond (clean k (g o) (drop o raw)) (some o) (firstClean k g raw os)
+firstClean k g letters [] = none
+firstClean k g letters (o ∷ os) = cond (clean k (g o) (drop o letters)) (some o) (firstClean k g letters os)
 
 -- the symbol before the start o: the received one, or f
 unfoldable pub letterBefore : Bool → ℕ → List ℕ → ℕ → ℕ
@@ -47,15 +47,15 @@ startFrom p g (some o) = some (p + o, g o)
 startFrom p g none = none
 
 -- the place of the start that an answer names, n where it names none
-abbrev pub placeOf : Next → ℕ → ℕ
-placeOf (At p f) n = p
-placeOf (Clean p f) n = p
-placeOf Nowhere n = n
+abbrev pub nextPlace : Next → ℕ → ℕ
+nextPlace (At p f) n = p
+nextPlace (Clean p f) n = p
+nextPlace Nowhere n = n
 
 -- a clean segment stands at the front, of the first of the lengths ks
 abbrev pub FirstClean : List ℕ → ℕ → List ℕ → Type 0
-FirstClean [] f raw = ⊥
-FirstClean (k ∷ ks) f raw = clean k f raw ≡ true
+FirstClean [] f letters = ⊥
+FirstClean (k ∷ ks) f letters = clean k f letters ≡ true
 
 -- the start lies inside the received symbols s, and where the answer says so, a clean segment of the first of the lengths ks stands there
 abbrev pub Known : List ℕ → List ℕ → Next → Type 0

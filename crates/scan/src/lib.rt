@@ -1,17 +1,17 @@
 // The search for a clean segment about a place.
-use compare::offsets::moved_by;
+use clean::marker_stands;
+use places::offsets::moved_by;
 use segment::size_of;
-use standing::marker_stands;
 use tail::symbol_in;
 use tail::tail_of;
 ghost use mathlib.Core.Path.{_≡_};
 ghost use mathlib.Core.List.{_∷_};
 ghost use Prim.Native.Nat.{_<_, _≤_};
 ghost use lib.ListN.{length, take};
-ghost use Rattle.code.specs.Refusals.{mostLetters};
+ghost use Rattle.code.specs.Limits.{mostLetters};
 ghost use Rattle.code.specs.Bounds.{farthest, mostMoves, Length, Received};
 ghost use Rattle.code.specs.Strands.{above, pairs};
-ghost use Rattle.scan.specs.Scans.{letterBefore, searched, placeOf};
+ghost use Rattle.scan.specs.Scans.{letterBefore, searched, nextPlace};
 
 // Where the next segment starts, with the symbol before it; whether a clean one is known to stand there; or that no start is found.
 pub enum Next {
@@ -21,8 +21,8 @@ pub enum Next {
 }
 
 // The place where the next segment starts, n where no start is found.
-pub fn place_of(next: Next, n: usize) -> usize
-    ensures { λ r. ⌜ r ≡ placeOf next n ⌝ }
+pub fn next_place(next: Next, n: usize) -> usize
+    ensures { λ r. ⌜ r ≡ nextPlace next n ⌝ }
 {
     match next {
         Next::At(at, _) => at,

@@ -1,7 +1,7 @@
 -- A segment that is being written, by its parts.
---   Bits           the syndrome symbols that are written, from the last on
---   mark-true, mark-false, mark-size   the marker, and a segment's length
---   put-parts      marker, message and tail are the segment
+--   Bits                              the syndrome symbols that are written, from the last on
+--   mark-true, mark-false, mark-size  the marker, and a segment's length
+--   put-parts                         marker, message and tail are the segment
 use mathlib.Core.Path.{_≡_, refl, sym, ap, _∙_}
 use mathlib.Core.Bool.{Bool, true, false}
 use mathlib.Core.List.{List, [], _∷_, _++_, append-assoc, append-nil}
@@ -10,13 +10,14 @@ use native.Mathlib.Omega.{arith}
 use lib.Bits.{bitAnd}
 use lib.ListN.{length, getD, take, drop, set, length-append, length-set}
 use lib.Seq.{take-suc, length-take-le, set-at}
-use Rattle.code.specs.Lists.{putAt, put-nothing}
+use Rattle.code.specs.Buffers.{putAt}
+use Rattle.code.specs.laws.Lists.{put-nothing}
 use Rattle.code.specs.Layers.{pair, bits, width}
 use Rattle.code.specs.Segment.{sep, marker, segment, size}
 use Rattle.copying.proofs.Blocks.{put-both}
 use Rattle.tail.specs.declared.Tail.{Tail}
 use Rattle.tail.specs.Tails.{mark, IsTail, tailOf}
-use Rattle.tail.proofs.Steps.{bits-last}
+use Rattle.tail.proofs.SumsAndBits.{bits-last}
 use Rattle.tail.proofs.Tails.{tail-symbols, marked-block}
 
 -- one more symbol before a block

@@ -8,9 +8,9 @@ ghost use mathlib.Core.Path.{_≡_};
 ghost use Prim.Native.Nat.{_+_, _<_, _≤_};
 ghost use lib.ListN.{length};
 ghost use Rattle.code.specs.Bounds.{longest, widest, Length};
-ghost use Rattle.code.specs.Lists.{putAt};
+ghost use Rattle.code.specs.Buffers.{putAt};
 ghost use Rattle.code.specs.Layers.{pair, bits};
-ghost use Rattle.code.specs.Segment.{segment, lastOf, size};
+ghost use Rattle.code.specs.Segment.{segment, lastOf, size, dataAt};
 ghost use Rattle.tail.specs.Tails.{mark, IsTail, tailOf};
 
 // The marker of a message at a place of `out`, where its segment has one; and the place behind it.
@@ -71,6 +71,16 @@ pub fn write_segment(marked: bool, f: u8, message: &[u8], out: &mut [u8], at: us
     let tail = tail_of(message);
     put_segment(marked, f, message, tail, out, at);
     last_of(tail)
+}
+
+// Where the message stands in a segment.
+pub fn data_at(marked: bool) -> usize
+    ensures { λ r. ⌜ (r ≡ dataAt marked) × (r ≤ 2) ⌝ }
+{
+    if marked {
+        return 2;
+    }
+    0
 }
 
 // The length of a segment of k message symbols.

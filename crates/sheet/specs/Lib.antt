@@ -1,2 +1,2 @@
-pub mod Sheet
-pub mod SheetLaws
+pub mod SheetBytes
+pub mod laws

@@ -1,7 +1,8 @@
-pub mod Losing
-pub mod Comparing
-pub mod Stepping
-pub mod Ends
-pub mod Standing
-pub mod Markers
-pub mod Starting
+pub mod Step1
+pub mod Step8
+pub mod Step9
+pub mod Step10
+pub mod Answers
+pub mod Answered
+pub mod CleanSegments
+pub mod Starts

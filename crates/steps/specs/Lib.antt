@@ -1,2 +1,3 @@
+pub mod Step8
 pub mod Steps
-pub mod StepsLaws
+pub mod laws

@@ -1,17 +1,17 @@
 -- A segment, and where reading goes on.
---   Step        what is found of a segment, and the next start
---   afterLost   the step of a lost segment
---   afterOne    the step of a segment that was read or lost
---   stepAt      the step of the segment at a start
---   stepOf      the same, or that of a segment whose start was not found
---   going       the outcomes of the segments from a start on
---   Given       what is given of a segment
---   Marked      a known start has a marker
---   standingAnswer   the answer of a segment that stands in its place
---   IsStep      what a call answers of a step, and leaves in the buffer
---   Stepped     the same of the segment at a place
---   SteppedLost the same of a segment that a step loses
---   SteppedFrom the same of the segment at a start, where one was found
+--   Step            what is found of a segment, and the next start
+--   afterLost       the step of a lost segment
+--   afterOne        the step of a segment that was read or lost
+--   stepAt          the step of the segment at a start
+--   stepOf          the same, or that of a segment whose start was not found
+--   going           the outcomes of the segments from a start on
+--   AtStart         what is given of a segment
+--   Marked          a known start has a marker
+--   standingAnswer  the answer of a segment that stands in its place
+--   IsStep          what a call answers of a step, and leaves in the buffer
+--   Stepped         the same of the segment at a place
+--   SteppedLost     the same of a segment that a step loses
+--   SteppedFrom     the same of the segment at a start, where one was found
 use mathlib.Core.Path.{_≡_}
 use mathlib.Core.Bool.{Bool, true}
 use mathlib.Core.List.{List, map}
@@ -23,7 +23,7 @@ use Rattle.code.specs.Layers.{width}
 use Rattle.code.specs.Segment.{lastOf, size}
 use Rattle.code.specs.Layout.{Lengths}
 use Rattle.code.specs.Reading as R
-use Rattle.code.specs.Reading.{message, readOne}
+use Rattle.code.specs.Reading.{message, readSegment}
 use Rattle.code.specs.Strands.{Outcome, lostOutcome, unfound, scan, reading}
 use Rattle.code.specs.declared.Edit.the-variants.{None}
 use Rattle.code.specs.declared.Verdict.the-variants.{Read, Lost}
@@ -48,14 +48,14 @@ abbrev pub lostAt : Bool → ℕ → List ℕ → ℕ → List ℕ → ℕ → S
 lostAt marked k ks p s step = afterLost k p s step (scan (size marked k) ks (drop p s) (drop p s))
 
 -- a segment of k message symbols at p was read or lost; ks are the lengths behind it
-abbrev pub afterOne : Bool → ℕ → List ℕ → ℕ → List ℕ → R.One → Step
-afterOne marked k ks p s (R.One.read m e o) =
+abbrev pub afterOne : Bool → ℕ → List ℕ → ℕ → List ℕ → R.SegmentResult → Step
+afterOne marked k ks p s (R.SegmentResult.read m e o) =
     record { outcome = record { piece = take o (drop p s); message = m; verdict = Read e }; next = some (p + o, lastOf m) }
-afterOne marked k ks p s (R.One.lost step) = lostAt marked k ks p s step
+afterOne marked k ks p s (R.SegmentResult.lost step) = lostAt marked k ks p s step
 
 -- the step of the segment at p, f being the symbol before it
 unfoldable pub stepAt : Bool → ℕ → ℕ → List ℕ → ℕ → List ℕ → Step
-stepAt marked f k ks p s = afterOne marked k ks p s (readOne marked f k ks (drop p s) (drop p s))
+stepAt marked f k ks p s = afterOne marked k ks p s (readSegment marked f k ks (drop p s) (drop p s))
 
 -- the step of the segment at a start, or of one whose start was not found
 abbrev pub stepOf : Option (ℕ × ℕ) → Bool → ℕ → List ℕ → List ℕ → Step
@@ -68,7 +68,7 @@ going (some x) marked ks s = reading marked (x .1) ks (drop (x .0) s) (drop (x .
 going none marked ks s = map unfound ks
 
 -- a segment of k message symbols may start at p in the symbols s, f being the symbol before it, and the lengths ks follow
-pub record Given (s ks : List ℕ) (k p f : ℕ) : Type 0 where
+pub record AtStart (s ks : List ℕ) (k p f : ℕ) : Type 0 where
   pub received : Received s
   pub start : Start s p f
   pub message : Length k

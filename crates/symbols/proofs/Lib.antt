@@ -1,3 +1,4 @@
-pub mod Bits
-pub mod Steps
+pub mod LetterBits
+pub mod Loops
 pub mod Spelled
+pub mod Decoded

@@ -4,7 +4,7 @@ ghost use mathlib.Core.Bool.{true, _&&_};
 ghost use Prim.Native.Nat.{_<_, _≤_};
 ghost use lib.ListN.{length};
 ghost use Rattle.code.specs.Symbols.{Below, letterOf, symbolOf, letters, legible, decoded};
-ghost use Rattle.code.specs.Writing.{overFront};
+ghost use Rattle.code.specs.Buffers.{overFront};
 ghost use Rattle.code.specs.declared.Decoded.the-variants.{Whole};
 ghost use Rattle.code.specs.declared.Letter.the-variants.{Symbol};
 ghost use Rattle.symbols.specs.Letters.{isLetter, allLetters};

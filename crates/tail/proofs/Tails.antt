@@ -14,14 +14,14 @@ use lib.ListN.{length, getD}
 use Rattle.code.specs.Symbols.{Below}
 use Rattle.code.specs.Bounds.{widest, Length}
 use Rattle.code.specs.Layers.{bit, digit, layer, syndrome, number, pair, bits, width}
-use Rattle.code.specs.LayersLaws.{length-layer, length-bits, length-pair, bits-number, pair-layers, width-least}
+use Rattle.code.specs.laws.Layers.{length-layer, length-bits, length-pair, bits-number, pair-layers, width-least}
 use Rattle.code.specs.Segment.{check, sep, separator, syndromeOf, block, segment, lastOf}
-use Rattle.code.specs.SegmentLaws.{check-below, separator-apart, syndrome-symbols-below, width-two}
+use Rattle.code.specs.laws.Segment.{check-below, separator-apart, syndrome-symbols-below, width-two}
 use Rattle.layers.specs.declared.Layers.{Layers}
-use Rattle.layers.specs.Answers.{both}
+use Rattle.layers.specs.LayerSums.{both}
 use Rattle.tail.specs.declared.Tail.{Tail}
 use Rattle.tail.specs.Tails.{mark, syndromeIn, IsTail, tailOf}
-use Rattle.tail.proofs.Steps.{bits-at}
+use Rattle.tail.proofs.SumsAndBits.{bits-at}
 
 -- the parts that make a tail
 pub is-tail : (m : List ℕ) (c p t h l a b : ℕ) → c ≡ check m → t ≡ width (length m) → pair (bits t h) (bits t l) ≡ syndromeOf m → a ≡ getD (syndromeOf m) 0 0 → b ≡ getD (syndromeOf m) 1 0 → p ≡ sep c a b → IsTail m (record { check = c; separator = p; width = t; high = h; low = l })

@@ -6,7 +6,7 @@ ghost use lib.ListN.{length, getD};
 ghost use Rattle.code.specs.Bounds.{longest, widest, Length};
 ghost use Rattle.code.specs.Layers.{bit, digit};
 ghost use Rattle.code.specs.Segment.{check, either, sep, syndromeOf};
-ghost use Rattle.layers.specs.Answers.{sumsOf};
+ghost use Rattle.layers.specs.LayerSums.{sumsOf};
 ghost use Rattle.tail.specs.Tails.{IsTail, tailOf};
 
 // What follows a message: check, separator, and the syndromes of both layers, in `width` bits each.

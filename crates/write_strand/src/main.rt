@@ -2,49 +2,72 @@
 use code::Order;
 use code::Refusal;
 use code::Wrote;
-use desk::word;
-use hex::Hex;
+use console::Input;
+use console::put_refused;
+use text::hex::Hex;
+use text::lines::behind;
+use text::lines::front;
+use text::lines::line;
+use text::put::put;
+ghost use mathlib.Core.Path.{_≡_};
+ghost use Prim.Native.Nat.{_≤_};
+ghost use lib.ListN.{length, take, replicate};
+ghost use Rattle.code.specs.declared.Order.the-variants as O;
+ghost use Rattle.code.specs.Writing.{writeCall};
+ghost use Rattle.text.specs.Put.{Appended};
+ghost use Rattle.write_strand.specs.WriteOutput.{written, writeText, writeOutput, outputRoom};
 
-// The strand of a message for k and B.
-fn print_strand(k: u32, b: u32, message: &[u8]) {
+// What a message is written as, for k and B, at the front of `out`; the answer is where it ends.
+fn put_strand(out: &mut [u8], k: u32, b: u32, message: &[u8]) -> usize
+    requires { ⌜ outputRoom ≤ length (now out) ⌝ }
+    ensures { λ r. ⌜ Appended (now (out .entry)) 0 (written (writeCall k b (now (message .entry)) (replicate 2048 0))) (now (out .exit)) r ⌝ }
+{
     let mut strand = [0u8; 2048];
-    match strand::write(k, b, message, &mut strand) {
+    match writer::write(k, b, message, &mut strand) {
         Wrote::Letters(n) => {
-            word(lines::front(&strand, n));
-            word(b"\n");
+            let end = put(out, 0, front(&strand, n));
+            put(out, end, b"\n")
         }
-        Wrote::Refused(r) => desk::refuse(r),
+        Wrote::Refused(r) => put_refused(out, 0, r),
     }
 }
 
 // The same for the line that holds the message: at most 128 bytes, two digits each, or refused 2.
-fn print_message(k: u32, b: u32, line: &[u8]) {
+fn put_message(out: &mut [u8], k: u32, b: u32, digits: &[u8]) -> usize
+    requires { ⌜ outputRoom ≤ length (now out) ⌝ }
+    ensures { λ r. ⌜ Appended (now (out .entry)) 0 (writeText (O.Is k b) (now (digits .entry))) (now (out .exit)) r ⌝ }
+{
     let mut message = [0u8; 128];
-    match hex::decode(line, &mut message) {
-        Hex::Bytes(n) => print_strand(k, b, lines::front(&message, n)),
-        Hex::Bad => desk::refuse(Refusal::MessageSize),
+    match text::hex::decode(digits, &mut message) {
+        Hex::Bytes(n) => put_strand(out, k, b, front(&message, n)),
+        Hex::Bad => put_refused(out, 0, Refusal::MessageSize),
     }
 }
 
-// The same for the input's first two lines.
-fn print_input(input: &[u8]) {
-    let end = lines::line_end(input, 0);
-    let next = lines::next_line(input, end);
-    let last = lines::line_end(input, next);
-    match desk::order_of(&input[0..end]) {
-        Order::Is(k, b) => print_message(k, b, &input[next..last]),
-        Order::Refused(r) => desk::refuse(r),
+// All that is printed for an input, at the front of `out`; the answer is its length.
+fn output(input: &[u8], out: &mut [u8]) -> usize
+    requires { ⌜ outputRoom ≤ length (now out) ⌝ }
+    ensures { λ r. ⌜ take r (now (out .exit)) ≡ writeOutput (now (input .entry)) ⌝ }
+{
+    match console::order_of(line(input)) {
+        Order::Is(k, b) => put_message(out, k, b, line(behind(input))),
+        Order::Refused(r) => put_refused(out, 0, r),
     }
 }
 
 // The buffer holds every pair of lines that is taken; a line that it does not hold whole is refused as too long.
 fn main() {
-    if desk::is_wrong_use(
+    if console::is_wrong_use(
         b"write_strand takes no arguments. It reads two lines: a label in eight hexadecimal digits, and a message in hexadecimal digits.\n",
     ) {
         return;
     }
-    let mut input = io::buffer();
-    let n = io::read_full(0, &mut input);
-    print_input(&input[..n]);
+    let mut input = [0u8; 4096];
+    let got = console::read_input(&mut input, b"write_strand: reading the input");
+    let Input::Bytes(n) = got else {
+        return;
+    };
+    let mut out = [0u8; 2049];
+    let end = output(front(&input, n), &mut out);
+    console::write_output(front(&out, end), b"write_strand: writing the output");
 }

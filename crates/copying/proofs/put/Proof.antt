@@ -3,7 +3,8 @@ use Prim.Native.Nat.{_+_, _-_, _≤_}
 use native.Mathlib.Omega.{arith}
 use lib.ListN.{length, take, drop, length-set}
 use lib.Seq.{take-length}
-use Rattle.code.specs.Lists.{putAt, put-nothing}
+use Rattle.code.specs.Buffers.{putAt}
+use Rattle.code.specs.laws.Lists.{put-nothing}
 use Rattle.copying.proofs.Blocks.{put-next, put-part}
 use Rattle.copying.proofs.put.Statement.{statement}
 use Rattle.copying.proofs.put.Tie as tie

@@ -1,6 +1,6 @@
 use mathlib.Core.Path.{sym, ap, _∙_}
 use borrow.Author.Needs.{needs}
-use Rattle.dnalm.specs.Answers.{fromTallied}
+use Rattle.dnalm.specs.CallAnswers.{fromTallied}
 use Rattle.dnalm.proofs.dnalm_add_to_tally.Statement.{statement}
 use Rattle.dnalm.proofs.dnalm_add_to_tally.Tie as tie
 

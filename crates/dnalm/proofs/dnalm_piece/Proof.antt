@@ -1,7 +1,7 @@
 use mathlib.Core.Path.{sym, ap, _∙_}
 use borrow.Author.Needs.{needs}
-use Rattle.pieces.proofs.Placing.{placed}
-use Rattle.dnalm.specs.Answers.{fromLocated}
+use Rattle.pieces.proofs.Calls.{placed}
+use Rattle.dnalm.specs.CallAnswers.{fromLocated}
 use Rattle.dnalm.proofs.dnalm_piece.Statement.{statement}
 use Rattle.dnalm.proofs.dnalm_piece.Tie as tie
 

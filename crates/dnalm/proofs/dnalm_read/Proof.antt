@@ -1,5 +1,5 @@
 use borrow.Author.Needs.{needs}
-use Rattle.dnalm.proofs.Told.{told-read}
+use Rattle.dnalm.proofs.Answers.{told-read}
 use Rattle.dnalm.proofs.dnalm_read.Statement.{statement}
 use Rattle.dnalm.proofs.dnalm_read.Tie as tie
 

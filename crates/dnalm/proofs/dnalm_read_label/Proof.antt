@@ -1,6 +1,6 @@
 use mathlib.Core.Path.{sym, ap, _∙_}
 use borrow.Author.Needs.{needs}
-use Rattle.dnalm.specs.Answers.{fromOrder}
+use Rattle.dnalm.specs.CallAnswers.{fromOrder}
 use Rattle.dnalm.proofs.dnalm_read_label.Statement.{statement}
 use Rattle.dnalm.proofs.dnalm_read_label.Tie as tie
 

@@ -1,6 +1,6 @@
 use borrow.Author.Needs.{needs}
-use Rattle.dnalm.specs.Answers.{fromWrote}
-use Rattle.dnalm.proofs.Told.{told}
+use Rattle.dnalm.specs.CallAnswers.{fromWrote}
+use Rattle.dnalm.proofs.Answers.{told}
 use Rattle.dnalm.proofs.dnalm_write.Statement.{statement}
 use Rattle.dnalm.proofs.dnalm_write.Tie as tie
 

@@ -1,6 +1,6 @@
 use borrow.Author.Needs.{needs}
 use Rattle.code.specs.Refusals.{testNumber}
-use Rattle.dnalm.proofs.Told.{told}
+use Rattle.dnalm.proofs.Answers.{told}
 use Rattle.dnalm.proofs.dnalm_write_label.Statement.{statement}
 use Rattle.dnalm.proofs.dnalm_write_label.Tie as tie
 

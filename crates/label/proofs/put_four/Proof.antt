@@ -4,7 +4,7 @@ use Prim.Native.Nat.{_/_, _%_}
 use native.Mathlib.Omega.{arith}
 use borrow.Author.Needs.{needs}
 use lib.ListN.{length-set}
-use Rattle.code.specs.Lists.{put-four}
+use Rattle.code.specs.laws.Lists.{put-four}
 use Rattle.label.proofs.Bits.{mask-byte}
 use Rattle.label.proofs.put_four.Statement.{statement}
 use Rattle.label.proofs.put_four.Tie as tie

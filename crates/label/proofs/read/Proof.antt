@@ -11,7 +11,7 @@ use Rattle.code.specs.declared.Checked.the-variants.{Fine}
 use Rattle.code.specs.declared.Order.the-variants as O
 use Rattle.code.specs.Refusals.{unlessRefused, orderTest}
 use Rattle.code.specs.Label.{numberOf4, orderOf}
-use Rattle.code.specs.LabelLaws.{order-short, order-edition, order-spare, order-tested}
+use Rattle.code.specs.laws.Label.{order-short, order-edition, order-spare, order-tested}
 use Rattle.label.proofs.Bits.{mask-byte, mask-length, mask-spare}
 use Rattle.label.proofs.read.Statement.{statement}
 use Rattle.label.proofs.read.Tie as tie

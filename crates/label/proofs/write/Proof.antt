@@ -7,9 +7,9 @@ use lib.ListN.{length}
 use Rattle.code.specs.declared.Refusal.the-variants.{ShortBuffer}
 use Rattle.code.specs.declared.Checked.the-variants.{Fine, Refused}
 use Rattle.code.specs.Refusals.{orderTest}
-use Rattle.code.specs.RefusalsLaws.{order-fine, order-then, order-refused}
-use Rattle.code.specs.Writing.{overFront}
-use Rattle.code.specs.Label.{fourBytes, labelTest}
+use Rattle.code.specs.laws.Refusals.{order-fine, order-then, order-refused}
+use Rattle.code.specs.Buffers.{overFront}
+use Rattle.code.specs.Label.{fourBytes, labelWriteTest}
 use Rattle.label.proofs.write.Statement.{statement}
 use Rattle.label.proofs.write.Tie as tie
 
@@ -21,13 +21,13 @@ returns : tie.Need-returns
 returns c =
     let a = c .before .before .before .before .args in
     let t = c .enum-told2 .given in
-    let l : labelTest (a .k) (a .b) (length (a .out .now)) ≡ Refused (t .0 .0) = order-refused (a .k) (a .b) false _ _ (sym (c .before .before .order-test .ensures) ∙ t .1) in
+    let l : labelWriteTest (a .k) (a .b) (length (a .out .now)) ≡ Refused (t .0 .0) = order-refused (a .k) (a .b) false _ _ (sym (c .before .before .order-test .ensures) ∙ t .1) in
     rw l (λ i. (t .1 i, a .out .now))
 
 returns-2 : tie.Need-returns-2
 returns-2 c =
     let a = c .before .before .before .before .before .args in
-    let l : labelTest (a .k) (a .b) (length (a .out .now)) ≡ Refused ShortBuffer = order-then (a .k) (a .b) false _ (taken (c .before)) ∙ rw (lt-ltb _ 4 (c .if1 .taken)) in
+    let l : labelWriteTest (a .k) (a .b) (length (a .out .now)) ≡ Refused ShortBuffer = order-then (a .k) (a .b) false _ (taken (c .before)) ∙ rw (lt-ltb _ 4 (c .if1 .taken)) in
     rw l
 
 label-number-requires : tie.Need-label-number-requires
@@ -40,7 +40,7 @@ returns-3 : tie.Need-returns-3
 returns-3 c =
     let a = c .before .before .before .before .before .before .before .before .before .before .args in
     let e = c .before .before .before .before .before in
-    let l : labelTest (a .k) (a .b) (length (a .out .now)) ≡ Fine = order-then (a .k) (a .b) false _ (taken (e .before)) ∙ rw (le-ltb _ 4 (e .if1 .left)) in
+    let l : labelWriteTest (a .k) (a .b) (length (a .out .now)) ≡ Fine = order-then (a .k) (a .b) false _ (taken (e .before)) ∙ rw (le-ltb _ 4 (e .if1 .left)) in
     let n = c .before .before .before .before .label-number .ensures in
     let w = c .before .before .put-four .ensures in
     rw l (λ i. (Fine, (w ∙ ap (λ (n : ℕ). overFront (fourBytes n) (a .out .now)) n) i))

@@ -3,7 +3,7 @@ use Prim.Native.Nat.{_/_, _^_}
 use native.Mathlib.Omega.{arith}
 use borrow.Author.Needs.{needs}
 use lib.Bits.{and-mask, mask-lt}
-use Rattle.code.specs.LayersLaws.{digit-bit}
+use Rattle.code.specs.laws.Layers.{digit-bit}
 use Rattle.layers.proofs.digit_of.Statement.{statement}
 use Rattle.layers.proofs.digit_of.Tie as tie
 

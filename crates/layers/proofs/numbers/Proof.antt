@@ -6,7 +6,7 @@ use borrow.Author.Needs.{needs}
 use lib.ListN.{length, take}
 use lib.Seq.{take-all}
 use Rattle.code.specs.Layers.{layer, number}
-use Rattle.layers.proofs.Ends.{bit-more, bit-fits}
+use Rattle.layers.proofs.LastSymbol.{bit-more, bit-fits}
 use Rattle.layers.proofs.numbers.Statement.{statement}
 use Rattle.layers.proofs.numbers.Tie as tie
 

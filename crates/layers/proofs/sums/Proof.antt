@@ -7,7 +7,7 @@ use lib.ListN.{length, take, length-take}
 use lib.Seq.{take-all}
 use Rattle.code.specs.Layers.{layer, sumOfPlaces, sumFrom}
 use Rattle.code.specs.Segment as code
-use Rattle.layers.proofs.Ends.{total-more, place-more, place-fits, small-sum}
+use Rattle.layers.proofs.LastSymbol.{total-more, place-more, place-fits, small-sum}
 use Rattle.layers.proofs.sums.Statement.{statement}
 use Rattle.layers.proofs.sums.Tie as tie
 

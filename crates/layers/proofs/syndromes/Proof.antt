@@ -7,9 +7,9 @@ use lib.Bits.{bitAnd, and-mask}
 use lib.Pow.{shl-exact}
 use Rattle.code.specs.Bounds.{widest}
 use Rattle.code.specs.Layers.{sumOfPlaces, syndrome}
-use Rattle.code.specs.LayersLaws.{length-layer, width-least}
+use Rattle.code.specs.laws.Layers.{length-layer, width-least}
 use Rattle.layers.specs.declared.Layers.{Layers}
-use Rattle.layers.specs.Answers.{both}
+use Rattle.layers.specs.LayerSums.{both}
 use borrow.Author.Needs.{needs}
 use Rattle.layers.proofs.syndromes.Statement.{statement}
 use Rattle.layers.proofs.syndromes.Tie as tie

@@ -1,7 +1,7 @@
 use native.Mathlib.Omega.{arith}
 use borrow.Author.Needs.{needs}
 use lib.Count.{leading-le}
-use Rattle.code.specs.LayersLaws.{width-leading}
+use Rattle.code.specs.laws.Layers.{width-leading}
 use Rattle.layers.proofs.width_of.Statement.{statement}
 use Rattle.layers.proofs.width_of.Tie as tie
 

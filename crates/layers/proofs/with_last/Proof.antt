@@ -2,8 +2,8 @@ use Prim.Native.Nat.{_-_}
 use native.Mathlib.Omega.{arith}
 use borrow.Author.Needs.{needs}
 use lib.ListN.{length, take, length-take}
-use Rattle.layers.specs.Answers.{highs, lows}
-use Rattle.layers.proofs.Ends.{with-place, small-sum, bit-times}
+use Rattle.layers.specs.LayerSums.{highs, lows}
+use Rattle.layers.proofs.LastSymbol.{with-place, small-sum, bit-times}
 use Rattle.layers.proofs.with_last.Statement.{statement}
 use Rattle.layers.proofs.with_last.Tie as tie
 

@@ -1,8 +1,8 @@
 use native.Mathlib.Omega.{arith}
 use borrow.Author.Needs.{needs}
 use lib.ListN.{length}
-use Rattle.layers.specs.Answers.{highs, lows}
-use Rattle.layers.proofs.Ends.{without-place, bit-times}
+use Rattle.layers.specs.LayerSums.{highs, lows}
+use Rattle.layers.proofs.LastSymbol.{without-place, bit-times}
 use Rattle.layers.proofs.without_last.Statement.{statement}
 use Rattle.layers.proofs.without_last.Tie as tie
 

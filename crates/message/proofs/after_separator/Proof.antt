@@ -1,7 +1,7 @@
 use mathlib.Core.Path.{ap, _∙_}
 use Prim.Native.Nat.{ℕ, _+_}
 use native.Mathlib.Omega.{arith}
-use Rattle.compare.specs.OffsetsLaws.{tried-small}
+use Rattle.places.specs.laws.Offsets.{tried-small}
 use Rattle.message.proofs.Separators.{tried-shift}
 use Rattle.message.proofs.after_separator.Statement.{statement}
 use Rattle.message.proofs.after_separator.Tie as tie

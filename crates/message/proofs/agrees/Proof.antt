@@ -1,6 +1,6 @@
 use borrow.Author.Needs.{needs}
 use mathlib.Core.Bool.{true}
-use Rattle.message.proofs.Steps.{took-moved, took-check, took-level}
+use Rattle.message.proofs.Steps3to7.{took-moved, took-check, took-level}
 use Rattle.message.proofs.agrees.Statement.{statement}
 use Rattle.message.proofs.agrees.Tie as tie
 

@@ -1,10 +1,10 @@
 use borrow.Author.Needs.{needs}
 use native.Mathlib.Omega.{arith}
 use lib.ListN.{length}
-use Rattle.standing.proofs.InPlace.{tail-room}
-use Rattle.message.specs.Answers.{shiftOf}
-use Rattle.message.proofs.Mends.{is-got}
-use Rattle.message.proofs.Steps.{moved-least, shift-read, shift-repaired}
+use Rattle.clean.proofs.Parts.{tail-room}
+use Rattle.message.specs.MessageAnswers.{shiftOf}
+use Rattle.message.proofs.RepairedLayers.{is-read-message}
+use Rattle.message.proofs.Steps3to7.{moved-least, shift-read, shift-repaired}
 use Rattle.message.proofs.at_separator.Statement.{statement}
 use Rattle.message.proofs.at_separator.Tie as tie
 
@@ -30,7 +30,7 @@ returns c =
     let a = b .args in
     let g = c .before .before .before .before .before .agrees in
     let r = c .before .before .taken-with in
-    is-got _ _ _ (r .result) (shift-read (shiftOf (a .j)) (length (a .out .now)) (a .d) (a .s .now) (a .tail) (g .result) (b .pre .1 .1 .1) (g .ensures) (c .before .before .before .before .if1 .taken)) (r .ensures)
+    is-read-message _ _ _ (r .result) (shift-read (shiftOf (a .j)) (length (a .out .now)) (a .d) (a .s .now) (a .tail) (g .result) (b .pre .1 .1 .1) (g .ensures) (c .before .before .before .before .if1 .taken)) (r .ensures)
 
 returns-2 : tie.Need-returns-2
 returns-2 c =
@@ -38,7 +38,7 @@ returns-2 c =
     let a = b .args in
     let g = c .before .before .before .before .before .agrees in
     let r = c .before .before .repair-at in
-    is-got _ _ _ (r .result) (shift-repaired (shiftOf (a .j)) (length (a .out .now)) (a .d) (a .s .now) (a .tail) (g .result) (b .pre .1 .1 .1) (g .ensures) (c .before .before .before .before .if1 .left)) (r .ensures)
+    is-read-message _ _ _ (r .result) (shift-repaired (shiftOf (a .j)) (length (a .out .now)) (a .d) (a .s .now) (a .tail) (g .result) (b .pre .1 .1 .1) (g .ensures) (c .before .before .before .before .if1 .left)) (r .ensures)
 
 pub at-separator-spec : {M : Type 1} → statement M
 at-separator-spec =

@@ -5,8 +5,8 @@ use native.Mathlib.Omega.{arith}
 use borrow.Author.Count.{below-none, below-more}
 use lib.ListN.{drop}
 use Rattle.code.specs.Reading.{threeEqual}
-use Rattle.compare.specs.Offsets.{triedAt}
-use Rattle.compare.specs.OffsetsLaws.{tried-small}
+use Rattle.places.specs.Offsets.{triedAt}
+use Rattle.places.specs.laws.Offsets.{tried-small}
 use Rattle.message.proofs.Separators.{found-at, found-none, moved-test}
 use Rattle.message.proofs.find_separator.Statement.{statement}
 use Rattle.message.proofs.find_separator.Tie as tie

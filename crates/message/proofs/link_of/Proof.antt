@@ -3,7 +3,7 @@ use Prim.Native.Nat.{ℕ, zero, suc}
 use borrow.Author.Needs.{needs}
 use Rattle.code.specs.declared.Link.the-variants.{More}
 use Rattle.code.specs.Reading.{linkOf}
-use Rattle.message.specs.Answers.{shiftOf}
+use Rattle.message.specs.MessageAnswers.{shiftOf}
 use Rattle.message.proofs.link_of.Statement.{statement}
 use Rattle.message.proofs.link_of.Tie as tie
 

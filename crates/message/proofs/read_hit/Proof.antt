@@ -5,11 +5,11 @@ use Prim.Native.Nat.{ℕ, _+_}
 use native.Mathlib.Omega.{arith}
 use lib.ListN.{length, take, drop}
 use lib.Seq.{drop-drop}
-use Rattle.code.specs.Reading.{gotHit, message}
-use Rattle.compare.specs.OffsetsLaws.{tried-small}
-use Rattle.message.proofs.Mends.{is-lost, is-got}
+use Rattle.code.specs.Reading.{readHit, message}
+use Rattle.places.specs.laws.Offsets.{tried-small}
+use Rattle.message.proofs.RepairedLayers.{is-lost, is-read-message}
 use Rattle.message.proofs.Separators.{tried-shift, found-moved, found-missing}
-use Rattle.message.proofs.Steps.{hit-room}
+use Rattle.message.proofs.Steps3to7.{hit-room}
 use Rattle.message.proofs.read_hit.Statement.{statement}
 use Rattle.message.proofs.read_hit.Tie as tie
 
@@ -42,14 +42,14 @@ returns c =
     let a = b .args in
     let k = length (a .out .now) in
     let f = found-moved k (drop (a .p + 2) (a .s .now)) (a .found) (b .pre .1) _ (c .before .before .before .before .before .before .found .given .1) in
-    is-got _ _ _ (c .before .before .taken .result) (ap (gotHit k (drop (a .p) (a .s .now))) (f .shift) ∙ ap (λ (n : List ℕ). message (take k n)) (drop-drop _ (a .p) (a .s .now)) ∙ ap (λ (n : ℕ). message (take k (drop (a .p + n) (a .s .now)))) (sym (c .before .before .before .before .moved-by .ensures ∙ tried-shift 2 _ (f .number)))) (c .before .before .taken .ensures)
+    is-read-message _ _ _ (c .before .before .taken .result) (ap (readHit k (drop (a .p) (a .s .now))) (f .shift) ∙ ap (λ (n : List ℕ). message (take k n)) (drop-drop _ (a .p) (a .s .now)) ∙ ap (λ (n : ℕ). message (take k (drop (a .p + n) (a .s .now)))) (sym (c .before .before .before .before .moved-by .ensures ∙ tried-shift 2 _ (f .number)))) (c .before .before .taken .ensures)
 
 returns-2 : tie.Need-returns-2
 returns-2 c =
     let b = c .before .before .before .before in
     let a = b .args in
     let k = length (a .out .now) in
-    is-lost _ _ 3 (ap (gotHit k (drop (a .p) (a .s .now))) (found-missing k (drop (a .p + 2) (a .s .now)) (a .found) (b .pre .1) (c .enum-told .given .1)))
+    is-lost _ _ 3 (ap (readHit k (drop (a .p) (a .s .now))) (found-missing k (drop (a .p + 2) (a .s .now)) (a .found) (b .pre .1) (c .enum-told .given .1)))
 
 pub read-hit-spec : {M : Type 1} → statement M
 read-hit-spec =

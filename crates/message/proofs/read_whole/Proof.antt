@@ -2,8 +2,8 @@ use borrow.Author.Needs.{needs}
 use mathlib.Core.Path.{ap}
 use native.Mathlib.Omega.{arith}
 use lib.ListN.{length, drop, length-drop}
-use Rattle.code.specs.Reading.{gotWhole}
-use Rattle.message.proofs.Mends.{is-got}
+use Rattle.code.specs.Reading.{readWhole}
+use Rattle.message.proofs.RepairedLayers.{is-read-message}
 use Rattle.message.proofs.Separators.{found-moved, found-missing}
 use Rattle.message.proofs.read_whole.Statement.{statement}
 use Rattle.message.proofs.read_whole.Tie as tie
@@ -23,7 +23,7 @@ returns c =
     let d = drop (a .d) (a .s .now) in
     let f = found-moved k d (a .found) (b .pre .1 .0) _ (c .before .before .before .before .before .found .given .1) in
     let r = c .before .before .at-separator in
-    is-got _ _ _ (r .result) (ap (gotWhole k d) (f .shift)) (r .ensures)
+    is-read-message _ _ _ (r .result) (ap (readWhole k d) (f .shift)) (r .ensures)
 
 returns-2 : tie.Need-returns-2
 returns-2 c =
@@ -32,7 +32,7 @@ returns-2 c =
     let k = length (a .out .now) in
     let d = drop (a .d) (a .s .now) in
     let r = c .before .before .without-separator in
-    is-got _ _ _ (r .result) (ap (gotWhole k d) (found-missing k d (a .found) (b .pre .1 .0) (c .before .before .before .before .enum-told .given .1))) (r .ensures)
+    is-read-message _ _ _ (r .result) (ap (readWhole k d) (found-missing k d (a .found) (b .pre .1 .0) (c .before .before .before .before .enum-told .given .1))) (r .ensures)
 
 pub read-whole-spec : {M : Type 1} → statement M
 read-whole-spec =

@@ -4,9 +4,9 @@ use borrow.Author.Needs.{needs}
 use Prim.Native.Nat.{_+_}
 use lib.ListN.{length}
 use Rattle.code.specs.Layers.{sumOfPlaces}
-use Rattle.layers.specs.Answers.{both}
-use Rattle.message.proofs.Steps.{part-is}
-use Rattle.message.proofs.Parts.{part-length, at-level, at-early, at-late, but-last, late-room}
+use Rattle.layers.specs.LayerSums.{both}
+use Rattle.message.proofs.Steps3to7.{part-is}
+use Rattle.message.proofs.ReceivedParts.{part-length, at-level, at-early, at-late, but-last, late-room}
 use Rattle.message.proofs.received_sums.Statement.{statement}
 use Rattle.message.proofs.received_sums.Tie as tie
 

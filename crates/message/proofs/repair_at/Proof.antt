@@ -3,18 +3,18 @@ use mathlib.Core.Path.{_≡_, refl, sym, ap, _∙_}
 use Prim.Native.Nat.{ℕ, _+_, _-_, _≤_, _<_}
 use native.Mathlib.Omega.{arith}
 use lib.ListN.{length, drop}
-use Rattle.code.specs.BelowLaws.{below-take, below-drop}
+use Rattle.code.specs.laws.Below.{below-take, below-drop}
 use Rattle.code.specs.Layers.{sumOfPlaces}
 use Rattle.code.specs.Reading.{moved}
-use Rattle.code.specs.SegmentLaws.{width-two}
-use Rattle.compare.specs.Offsets.{triedAt}
-use Rattle.compare.specs.OffsetsLaws.{tried-small}
-use Rattle.layers.specs.Answers.{both}
-use Rattle.message.specs.Answers.{shiftOf}
-use Rattle.message.proofs.Mends.{is-lost, is-got}
+use Rattle.code.specs.laws.Segment.{width-two}
+use Rattle.places.specs.Offsets.{triedAt}
+use Rattle.places.specs.laws.Offsets.{tried-small}
+use Rattle.layers.specs.LayerSums.{both}
+use Rattle.message.specs.MessageAnswers.{shiftOf}
+use Rattle.message.proofs.RepairedLayers.{is-lost, is-read-message}
 use Rattle.message.proofs.Separators.{tried-shift}
-use Rattle.message.proofs.Steps.{repaired-short, repaired-by, sent-moved, width-most, lent}
-use Rattle.message.proofs.Parts.{moved-room, moved-near, part-length}
+use Rattle.message.proofs.Steps3to7.{repaired-short, repaired-by, sent-moved, width-most, lent}
+use Rattle.message.proofs.ReceivedParts.{moved-room, moved-near, part-length}
 use Rattle.message.proofs.repair_at.Statement.{statement}
 use Rattle.message.proofs.repair_at.Tie as tie
 
@@ -42,8 +42,8 @@ received-sums-requires c κs =
     let r = moved-room (shiftOf (b .args .j)) k in
     ((b .pre .0 .0, b .pre .0 .1, omega arith, omega arith, omega arith), b .pre .1 .1)
 
-mend-both-requires : tie.Need-mend-both-requires
-mend-both-requires c κs =
+repair-both-requires : tie.Need-repair-both-requires
+repair-both-requires c κs =
     let b = c .before .before .before .before .before .before .before .before .before .before .before in
     let a = b .args in
     let s = a .s .now in
@@ -73,7 +73,7 @@ returns-2 c =
     let v = c .before .before .before .before .before .before .before .before .moved-by in
     let g = c .before .before .before .before .before .before .before .before .before .before .after-separator in
     let t = c .before .before .before .before .before .before .before .before .before .before .before .width-of in
-    is-got _ _ _ (c .before .before .mend-both .result) (repaired-by (shiftOf (a .j)) k (a .d) (t .result) (v .result) _ (a .s .now) (l .result) (l .ensures) (t .ensures) (v .ensures ∙ tried-shift k (a .j) (b .pre .1 .0 .0)) (g .ensures .0) (omega arith)) (c .before .before .mend-both .ensures)
+    is-read-message _ _ _ (c .before .before .repair-both .result) (repaired-by (shiftOf (a .j)) k (a .d) (t .result) (v .result) _ (a .s .now) (l .result) (l .ensures) (t .ensures) (v .ensures ∙ tried-shift k (a .j) (b .pre .1 .0 .0)) (g .ensures .0) (omega arith)) (c .before .before .repair-both .ensures)
 
 pub repair-at-spec : {M : Type 1} → statement M
 repair-at-spec =
@@ -101,6 +101,6 @@ repair-at-spec =
     (λ c. search needs)
     (λ c. search needs)
     (λ c. search needs)
-    mend-both-requires
+    repair-both-requires
     (λ c. search needs)
     returns-2)

@@ -2,7 +2,7 @@ use mathlib.Core.Path.{refl}
 use Prim.Native.Nat.{_+_}
 use borrow.Author.Needs.{needs}
 use lib.ListN.{length}
-use Rattle.message.proofs.Parts.{tail-part}
+use Rattle.message.proofs.ReceivedParts.{tail-part}
 use Rattle.message.proofs.taken.Statement.{statement}
 use Rattle.message.proofs.taken.Tie as tie
 

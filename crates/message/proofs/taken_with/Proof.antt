@@ -1,6 +1,6 @@
 use borrow.Author.Needs.{needs}
 use lib.ListN.{length, drop}
-use Rattle.code.specs.BelowLaws.{below-take, below-drop}
+use Rattle.code.specs.laws.Below.{below-take, below-drop}
 use Rattle.message.proofs.taken_with.Statement.{statement}
 use Rattle.message.proofs.taken_with.Tie as tie
 

@@ -1,7 +1,7 @@
 use borrow.Author.Needs.{needs}
 use lib.ListN.{length}
-use Rattle.message.proofs.Mends.{is-lost, is-got}
-use Rattle.message.proofs.Steps.{without-read, without-lost}
+use Rattle.message.proofs.RepairedLayers.{is-lost, is-read-message}
+use Rattle.message.proofs.Steps3to7.{without-read, without-lost}
 use Rattle.message.proofs.without_separator.Statement.{statement}
 use Rattle.message.proofs.without_separator.Tie as tie
 
@@ -12,7 +12,7 @@ returns c =
     let k = length (a .out .now) in
     let i = c .before .before .before .before .before .is-at in
     let t = c .before .before .taken-with in
-    is-got _ _ _ (t .result) (without-read k (a .d) (a .s .now) (a .tail .check) (i .result) (b .pre .1 .check) (i .ensures) (c .before .before .before .before .if1 .taken)) (t .ensures)
+    is-read-message _ _ _ (t .result) (without-read k (a .d) (a .s .now) (a .tail .check) (i .result) (b .pre .1 .check) (i .ensures) (c .before .before .before .before .if1 .taken)) (t .ensures)
 
 returns-2 : tie.Need-returns-2
 returns-2 c =

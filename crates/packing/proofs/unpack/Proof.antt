@@ -4,11 +4,11 @@ use Prim.Native.Nat.{_+_, _-_, _*_, _/_, _<_, _≤_}
 use native.Mathlib.Omega.{arith}
 use lib.ListN.{length, take, drop, length-set}
 use lib.Seq.{length-take-le}
-use Rattle.code.specs.Lists.{put-four, write-all}
+use Rattle.code.specs.laws.Lists.{put-four, write-all}
 use Rattle.code.specs.Symbols.{symbols}
-use Rattle.code.specs.SymbolsLaws.{length-symbols}
+use Rattle.code.specs.laws.Symbols.{length-symbols}
 use Rattle.packing.proofs.Words.{mask-byte, word-bytes}
-use Rattle.packing.proofs.Steps.{symbols-next}
+use Rattle.packing.proofs.Loops.{symbols-next}
 use Rattle.packing.proofs.unpack.Statement.{statement}
 use Rattle.packing.proofs.unpack.Tie as tie
 

@@ -7,12 +7,12 @@ use lib.Seq.{length-take-le}
 use Rattle.code.specs.declared.Checked.the-variants.{Fine}
 use Rattle.code.specs.declared.Decoded.the-variants as D
 use Rattle.code.specs.Symbols.{decoded}
-use Rattle.code.specs.RefusalsLaws.{outside-not, Ordered, order-fine}
-use Rattle.code.specs.WithinLimits.{equal-order}
+use Rattle.code.specs.laws.Refusals.{outside-not, Ordered, order-fine}
+use Rattle.code.specs.laws.WithinLimits.{equal-order}
 use Rattle.code.specs.ReadCall.{receivedTest}
-use Rattle.code.specs.ReadCallLaws.{received-fine, received-refused, piece-foreign, piece-outside, piece-fine}
-use Rattle.received.proofs.Decoded.{decoded-inside, decoded-front, decoded-received}
-use Rattle.pieces.proofs.Placing.{outside-is, located-is}
+use Rattle.code.specs.laws.ReadCall.{received-fine, received-refused, piece-foreign, piece-outside, piece-fine}
+use Rattle.symbols.proofs.Decoded.{decoded-inside, decoded-front, decoded-received}
+use Rattle.pieces.proofs.Calls.{outside-is, located-is}
 use borrow.Author.Needs.{needs}
 use Rattle.pieces.proofs.locate.Statement.{statement}
 use Rattle.pieces.proofs.locate.Tie as tie

@@ -1,7 +1,7 @@
 use mathlib.Core.Path.{sym, _∙_}
 use mathlib.Core.List.{[]}
 use native.Mathlib.Omega.{arith}
-use Rattle.pieces.proofs.Placing.{refused-located, placed}
+use Rattle.pieces.proofs.Calls.{refused-located, placed}
 use borrow.Author.Needs.{needs}
 use Rattle.pieces.proofs.piece.Statement.{statement}
 use Rattle.pieces.proofs.piece.Tie as tie

@@ -6,11 +6,11 @@ use lib.Seq.{length-take-le}
 use Rattle.code.specs.declared.Checked.the-variants.{Fine}
 use Rattle.code.specs.declared.Decoded.the-variants as D
 use Rattle.code.specs.Symbols.{legible, decoded}
-use Rattle.code.specs.RefusalsLaws.{Ordered, order-fine}
-use Rattle.code.specs.WithinLimits.{equal-order}
+use Rattle.code.specs.laws.Refusals.{Ordered, order-fine}
+use Rattle.code.specs.laws.WithinLimits.{equal-order}
 use Rattle.code.specs.ReadCall.{receivedTest, shortBuffers}
-use Rattle.code.specs.ReadCallLaws.{received-fine, received-refused, read-short, read-foreign, read-fine}
-use Rattle.received.proofs.Decoded.{decoded-inside, decoded-front, decoded-received}
+use Rattle.code.specs.laws.ReadCall.{received-fine, received-refused, read-short, read-foreign, read-fine}
+use Rattle.symbols.proofs.Decoded.{decoded-inside, decoded-front, decoded-received}
 use Rattle.reader.proofs.Calls.{short-is, room, read-is, promised}
 use borrow.Author.Needs.{needs}
 use Rattle.reader.proofs.read.Statement.{statement}

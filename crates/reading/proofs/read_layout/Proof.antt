@@ -2,7 +2,7 @@ use Prim.Native.Nat.{_-_}
 use native.Mathlib.Omega.{arith}
 use borrow.Author.Needs.{needs}
 use lib.ListN.{length}
-use Rattle.reading.proofs.Layouts.{Walk, walk-begin, walk-room, walk-asks, walk-numbered, walk-turn, walk-end}
+use Rattle.reading.proofs.Walk.{Walk, walk-begin, walk-room, walk-asks, walk-numbered, walk-turn, walk-end}
 use Rattle.reading.proofs.read_layout.Statement.{statement}
 use Rattle.reading.proofs.read_layout.Tie as tie
 
@@ -50,7 +50,7 @@ loop-again c =
     let a = c .before .before .before .before .before .before .before .before .before .before .before .before .before .before .before .args in
     let h = c .before .before .before .before .before .before .before .before .before .before .before .before .before .before .before .pre .0 in
     let g = c .before .before .before .before .read-segment in
-    walk-turn (a .lengths .now) (a .s .now) (h .1) _ _ _ _ _ _ (c .before .before .before .before .before .before .before .before .before .loop .inv) (c .before .before .before .before .before .before .before .before .loop-test .taken) _ (g .result) (g .ensures) _ _ (c .before .number-of .ensures) (c .place-of .ensures)
+    walk-turn (a .lengths .now) (a .s .now) (h .1) _ _ _ _ _ _ (c .before .before .before .before .before .before .before .before .before .loop .inv) (c .before .before .before .before .before .before .before .before .loop-test .taken) _ (g .result) (g .ensures) _ _ (c .before .number-of .ensures) (c .next-place .ensures)
 
 returns : tie.Need-returns Inv-loop μ-loop
 returns c =

@@ -2,8 +2,9 @@ use mathlib.Core.Path.{_≡_, sym, _∙_}
 use mathlib.Core.Bool.{true, false, _||_}
 use mathlib.Core.Logic.{⊎-elim}
 use native.Mathlib.Omega.{arith}
-use Rattle.code.specs.Refusals.{leastLength, mostLength, mostBytes, outside, uneven}
-use Rattle.code.specs.RefusalsLaws.{outside-not}
+use Rattle.code.specs.Limits.{leastLength, mostLength, mostBytes}
+use Rattle.code.specs.Refusals.{outside, uneven}
+use Rattle.code.specs.laws.Refusals.{outside-not}
 use Rattle.refusal.proofs.order_test.Statement.{statement}
 use Rattle.refusal.proofs.order_test.Tie as tie
 

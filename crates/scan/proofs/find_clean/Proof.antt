@@ -4,11 +4,11 @@ use native.Mathlib.Omega.{arith}
 use borrow.Author.Tests.{not-true, not-false}
 use lib.ListN.{length, drop}
 use Rattle.code.specs.Reading.{clean}
-use Rattle.compare.specs.OffsetsLaws.{tried-small}
+use Rattle.places.specs.laws.Offsets.{tried-small}
 use Rattle.scan.specs.declared.Next.the-variants.{Clean}
 use Rattle.scan.specs.Scans.{letterBefore}
-use Rattle.scan.specs.ScansLaws.{clean-short, letter-below}
-use Rattle.scan.proofs.Scanning.{left, left-whole, left-end, left-zero, left-pass, left-found, unmarked, marked, Compared, compared-begin, compared-turn, compared-stop, compared-end, size-is, width-small, part-long, part-tail, part-width}
+use Rattle.scan.specs.laws.Scans.{clean-short, letter-below}
+use Rattle.scan.proofs.Search.{left, left-whole, left-end, left-zero, left-pass, left-found, unmarked, marked, Compared, compared-begin, compared-turn, compared-stop, compared-end, size-is, width-small, part-long, part-tail, part-width}
 use Rattle.scan.proofs.find_clean.Statement.{statement}
 use Rattle.scan.proofs.find_clean.Tie as tie
 

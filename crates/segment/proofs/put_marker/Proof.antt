@@ -1,6 +1,6 @@
 use mathlib.Core.Path.{refl, sym}
 use native.Mathlib.Omega.{arith}
-use Rattle.code.specs.Lists.{put-nothing}
+use Rattle.code.specs.laws.Lists.{put-nothing}
 use Rattle.segment.proofs.Parts.{mark-true, mark-false, is-marker}
 use borrow.Author.Needs.{needs}
 use Rattle.segment.proofs.put_marker.Statement.{statement}

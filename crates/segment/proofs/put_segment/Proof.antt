@@ -2,7 +2,7 @@ use mathlib.Core.Path.{_∙_}
 use native.Mathlib.Omega.{arith}
 use lib.ListN.{length}
 use Rattle.code.specs.Bounds.{widest}
-use Rattle.code.specs.LayersLaws.{width-least}
+use Rattle.code.specs.laws.Layers.{width-least}
 use Rattle.segment.proofs.Parts.{mark-size, put-parts}
 use borrow.Author.Needs.{needs}
 use Rattle.segment.proofs.put_segment.Statement.{statement}

@@ -2,7 +2,7 @@ use mathlib.Core.Path.{refl, ap, _∙_}
 use mathlib.Core.List.{List, [], _∷_}
 use Prim.Native.Nat.{ℕ, _+_}
 use native.Mathlib.Omega.{arith}
-use Rattle.code.specs.Lists.{putAt}
+use Rattle.code.specs.Buffers.{putAt}
 use Rattle.copying.proofs.Blocks.{put-both}
 use Rattle.tail.specs.Tails.{syndromeIn}
 use Rattle.tail.proofs.Tails.{tail-parts}

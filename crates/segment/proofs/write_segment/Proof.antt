@@ -2,8 +2,8 @@ use mathlib.Core.Path.{_∙_}
 use native.Mathlib.Omega.{arith}
 use lib.ListN.{length}
 use Rattle.code.specs.Bounds.{widest}
-use Rattle.code.specs.LayersLaws.{width-least}
-use Rattle.code.specs.SegmentLaws.{width-two}
+use Rattle.code.specs.laws.Layers.{width-least}
+use Rattle.code.specs.laws.Segment.{width-two}
 use Rattle.tail.proofs.Tails.{tail-last}
 use borrow.Author.Needs.{needs}
 use Rattle.segment.proofs.write_segment.Statement.{statement}

@@ -3,8 +3,8 @@ use native.Mathlib.Omega.{arith}
 use borrow.Author.Needs.{needs}
 use lib.Dec.{eqb}
 use lib.ListN.{length, getD}
-use Rattle.sheet.proofs.Numbers.{bit-below}
-use Rattle.sheet.proofs.Steps.{Counting, count-begin, count-next, count-end}
+use Rattle.sheet.proofs.VerdictNumbers.{bit-below}
+use Rattle.sheet.proofs.Loops.{Counting, count-begin, count-next, count-end}
 use Rattle.sheet.proofs.counts_of.Statement.{statement}
 use Rattle.sheet.proofs.counts_of.Tie as tie
 

@@ -1,5 +1,5 @@
 use borrow.Author.Needs.{needs}
-use Rattle.sheet.proofs.Numbers.{or-parts}
+use Rattle.sheet.proofs.VerdictNumbers.{or-parts}
 use Rattle.sheet.proofs.joined.Statement.{statement}
 use Rattle.sheet.proofs.joined.Tie as tie
 

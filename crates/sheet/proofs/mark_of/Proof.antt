@@ -3,7 +3,7 @@ use native.Mathlib.Omega.{arith}
 use borrow.Author.Needs.{needs}
 use lib.Bits.{bitAnd}
 use lib.Dec.{ltb}
-use Rattle.sheet.proofs.Numbers.{mask-kind, bit-below, kind-mark}
+use Rattle.sheet.proofs.VerdictNumbers.{mask-kind, bit-below, kind-mark}
 use Rattle.sheet.proofs.mark_of.Statement.{statement}
 use Rattle.sheet.proofs.mark_of.Tie as tie
 

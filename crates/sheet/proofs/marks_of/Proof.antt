@@ -4,8 +4,8 @@ use Prim.Native.Nat.{_-_, _≤_}
 use native.Mathlib.Omega.{arith}
 use lib.ListN.{length, take, drop, length-set}
 use Rattle.code.specs.Verdicts.{verdictOf}
-use Rattle.code.specs.Strands.{marksOf}
-use Rattle.sheet.proofs.Steps.{marks-step, marks-all}
+use Rattle.code.specs.Sheet.{marksOf}
+use Rattle.sheet.proofs.Loops.{marks-step, marks-all}
 use Rattle.sheet.proofs.marks_of.Statement.{statement}
 use Rattle.sheet.proofs.marks_of.Tie as tie
 

@@ -3,10 +3,10 @@ use mathlib.Core.List.{_++_}
 use Prim.Native.Nat.{_+_, _-_, _≤_, _<_}
 use native.Mathlib.Omega.{arith}
 use lib.ListN.{length, take, drop, length-set}
-use Rattle.code.specs.Lists.{write-all}
-use Rattle.code.specs.Strands.{sheetOf}
-use Rattle.code.specs.ReadCallLaws.{length-sheet}
-use Rattle.sheet.proofs.Steps.{sheet-step}
+use Rattle.code.specs.laws.Lists.{write-all}
+use Rattle.code.specs.Sheet.{sheetOf}
+use Rattle.code.specs.laws.ReadCall.{length-sheet}
+use Rattle.sheet.proofs.Loops.{sheet-step}
 use Rattle.sheet.proofs.pack_sheet.Statement.{statement}
 use Rattle.sheet.proofs.pack_sheet.Tie as tie
 

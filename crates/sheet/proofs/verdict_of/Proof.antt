@@ -2,7 +2,7 @@ use mathlib.Core.Path.{_≡_}
 use Prim.Native.Nat.{_/_, _%_}
 use native.Mathlib.Omega.{arith}
 use borrow.Author.Needs.{needs}
-use Rattle.sheet.proofs.Numbers.{mask-kind, mask-symbol, kind-rest}
+use Rattle.sheet.proofs.VerdictNumbers.{mask-kind, mask-symbol, kind-rest}
 use Rattle.sheet.proofs.verdict_of.Statement.{statement}
 use Rattle.sheet.proofs.verdict_of.Tie as tie
 

@@ -5,7 +5,7 @@ use borrow.Author.Needs.{needs}
 use lib.ListN.{length}
 use Rattle.steps.specs.declared.Answer.{Answer}
 use Rattle.steps.specs.Steps.{stepAt, IsStep}
-use Rattle.steps.proofs.Standing.{clean-stands, M-inside, stands-step}
+use Rattle.steps.proofs.CleanSegments.{clean-stands, M-inside, stands-step}
 use Rattle.steps.proofs.read_clean.Statement.{statement}
 use Rattle.steps.proofs.read_clean.Tie as tie
 

@@ -5,12 +5,12 @@ use native.Mathlib.Omega.{arith}
 use borrow.Author.Needs.{needs}
 use lib.ListN.{length, take, drop}
 use Rattle.code.specs.Segment.{syndromeOf}
-use Rattle.message.specs.Answers.{separatorAs}
-use Rattle.message.proofs.Steps.{part-is, width-most}
-use Rattle.ending.specs.Ends.{separatorIn}
-use Rattle.steps.specs.Steps.{stepAt, Given, IsStep}
-use Rattle.steps.proofs.Standing.{clean-stands, clean-message, M-inside, M-long, M-syndrome}
-use Rattle.steps.proofs.Markers.{whole-separator}
+use Rattle.message.specs.MessageAnswers.{separatorAs}
+use Rattle.message.proofs.Steps3to7.{part-is, width-most}
+use Rattle.steps.specs.Step8.{separatorIn}
+use Rattle.steps.specs.Steps.{stepAt, AtStart, IsStep}
+use Rattle.steps.proofs.CleanSegments.{clean-stands, clean-message, M-inside, M-long, M-syndrome}
+use Rattle.steps.proofs.Step1.{whole-separator}
 use Rattle.steps.proofs.read_last_clean.Statement.{statement}
 use Rattle.steps.proofs.read_last_clean.Tie as tie
 
@@ -65,7 +65,7 @@ finished-requires c κs =
     let y = o .last .1 .1 .0 in
     let t = c .before .before .tail-given in
     let n : length y ≡ k = ap length (o .ensures) ∙ M-long true (a .f) k (a .p) (a .p + 2) (a .s .now) (g .message .0) (g .received .symbols) refl (z .1) (z .0) in (
-      subst (λ (i : ℕ). Given (a .s .now) (a .rest .now) i (a .p) (a .f)) (sym n) g,
+      subst (λ (i : ℕ). AtStart (a .s .now) (a .rest .now) i (a .p) (a .f)) (sym n) g,
       (
         c .before .find-separator .ensures ∙ (ap separatorAs (whole-separator true k (a .p) (a .s .now) (a .p + 2) refl) ∙ ap (λ (i : ℕ). separatorAs (separatorIn true i (a .p) (a .s .now))) (sym n)),
         clean-message true (a .f) k (a .p) (a .p + 2) (a .s .now) (g .message .0) (g .received .symbols) refl (z .1) (z .0) y (o .ensures) (t .result) (t .ensures),

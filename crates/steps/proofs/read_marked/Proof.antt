@@ -3,15 +3,15 @@ use Prim.Native.Nat.{_+_}
 use native.Mathlib.Omega.{arith}
 use borrow.Author.Needs.{needs}
 use lib.ListN.{length}
-use Rattle.layers.specs.Answers.{sumsOf}
-use Rattle.message.proofs.Steps.{part-is}
-use Rattle.message.proofs.Parts.{part-length}
-use Rattle.in_place.proofs.Sighting.{size-data, stands-tells}
+use Rattle.layers.specs.LayerSums.{sumsOf}
+use Rattle.message.proofs.Steps3to7.{part-is}
+use Rattle.message.proofs.ReceivedParts.{part-length}
+use Rattle.clean.proofs.Segment.{size-data, stands-tells}
 use Rattle.steps.specs.declared.Answer.{Answer}
 use Rattle.steps.specs.Steps.{stepAt, IsStep}
-use Rattle.steps.proofs.Stepping.{got-lost, gives-lost}
-use Rattle.steps.proofs.Standing.{M-inside, stands-step}
-use Rattle.steps.proofs.Markers.{got-short}
+use Rattle.steps.proofs.Answers.{read-message-lost, gives-lost}
+use Rattle.steps.proofs.CleanSegments.{M-inside, stands-step}
+use Rattle.steps.proofs.Step1.{read-message-short}
 use Rattle.steps.proofs.read_marked.Statement.{statement}
 use Rattle.steps.proofs.read_marked.Tie as tie
 
@@ -25,7 +25,7 @@ returns c =
     let k = length (a .out .now) in
     let d = c .before .before .before .before .before .data-at in
     let l = c .before .before .lost in
-    gives-lost (a .marked) (a .f) k (a .rest .now) (a .p) (a .s .now) 6 (l .last .1 .1 .1 .1 .1 .0) (l .result) (got-lost (a .marked) (a .f) k (a .rest .now) (a .p) (a .s .now) 6 (got-short (a .marked) k (a .p) (a .s .now) (a .p + d .result) (ap (_+_ (a .p)) (d .ensures .0)) (b .pre .1) (c .before .before .before .before .if1 .taken))) (l .ensures)
+    gives-lost (a .marked) (a .f) k (a .rest .now) (a .p) (a .s .now) 6 (l .last .1 .1 .1 .1 .1 .0) (l .result) (read-message-lost (a .marked) (a .f) k (a .rest .now) (a .p) (a .s .now) 6 (read-message-short (a .marked) k (a .p) (a .s .now) (a .p + d .result) (ap (_+_ (a .p)) (d .ensures .0)) (b .pre .1) (c .before .before .before .before .if1 .taken))) (l .ensures)
 
 sums-requires : tie.Need-sums-requires
 sums-requires c κs =
@@ -35,8 +35,8 @@ sums-requires c κs =
     let d = a .p + c .before .before .data-at .result in
     omega (arith, part-length d k (a .s .now) (d + k) refl (omega (arith, c .before .if1 .left)), b .pre .0 .message .1)
 
-segment-stands-requires : tie.Need-segment-stands-requires
-segment-stands-requires c κs =
+is-clean-requires : tie.Need-is-clean-requires
+is-clean-requires c κs =
     let b = c .before .before .before .before .before .before .before in
     let a = b .args in
     let k = length (a .out .now) in
@@ -52,7 +52,7 @@ put-standing-requires c κs =
     let k = length (a .out .now) in
     let g = b .pre .0 in
     let d = c .before .before .before .before .before .before .data-at in
-    let z = c .before .before .segment-stands in
+    let z = c .before .before .is-clean in
     let t = stands-tells (a .marked) (a .f) k (a .rest .now) (a .p) (a .s .now) (sym (z .ensures) ∙ c .before .if2 .taken) in
     ((g .received, g .message), M-inside (a .marked) (a .f) k (a .p) (a .p + d .result) (a .s .now) (g .message .0) (g .received .symbols) (ap (_+_ (a .p)) (d .ensures .0)) (omega (arith, c .before .before .before .before .before .if1 .left)) (t .standing))
 
@@ -64,7 +64,7 @@ returns-2 c =
     let g = b .pre .0 in
     let d = c .before .before .before .before .before .before .before .before .before .data-at in
     let o = c .before .before .put-standing in
-    let z = c .before .before .before .before .before .segment-stands in
+    let z = c .before .before .before .before .before .is-clean in
     let t = stands-tells (a .marked) (a .f) k (a .rest .now) (a .p) (a .s .now) (sym (z .ensures) ∙ c .before .before .before .before .if2 .taken) in
     subst (λ (r : Answer). IsStep (stepAt (a .marked) (a .f) k (a .rest .now) (a .p) (a .s .now)) (a .s .now) (a .rest .now) (o .last .1 .1 .0) r) (sym (o .ensures .0)) (stands-step (a .marked) (a .f) k (a .p) (a .p + d .result) (a .s .now) (g .message .0) (g .received .symbols) (ap (_+_ (a .p)) (d .ensures .0)) (omega (arith, c .before .before .before .before .before .before .before .before .if1 .left)) (t .standing) (a .rest .now) (λ e. omega (arith, t .last e, size-data (a .marked) k, d .ensures .0)) (o .last .1 .1 .0) (o .ensures .1))
 
@@ -91,7 +91,7 @@ read-marked-spec =
     (λ c. search needs)
     (λ c. search needs)
     sums-requires
-    segment-stands-requires
+    is-clean-requires
     put-standing-requires
     (λ c. search needs)
     returns-2

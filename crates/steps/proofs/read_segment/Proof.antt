@@ -1,6 +1,6 @@
 use borrow.Author.Needs.{needs}
 use lib.ListN.{length}
-use Rattle.steps.proofs.Starting.{at-given, clean-given, at-step, clean-step, nowhere-step}
+use Rattle.steps.proofs.Starts.{at-given, clean-given, at-step, clean-step, nowhere-step}
 use Rattle.steps.proofs.read_segment.Statement.{statement}
 use Rattle.steps.proofs.read_segment.Tie as tie
 

@@ -3,16 +3,16 @@ use Prim.Native.Nat.{ℕ, _+_}
 use native.Mathlib.Omega.{arith}
 use borrow.Author.Needs.{needs}
 use lib.ListN.{length, drop}
-use Rattle.code.specs.Reading.{got}
+use Rattle.code.specs.Reading.{readMessage}
 use Rattle.layers.specs.declared.Summed.{Summed}
-use Rattle.layers.specs.Answers.{sumsOf}
-use Rattle.message.specs.Answers.{separatorAs}
-use Rattle.message.proofs.Mends.{is-got}
-use Rattle.message.proofs.Steps.{part-is}
-use Rattle.message.proofs.Parts.{part-length, tail-part}
-use Rattle.ending.specs.Ends.{separatorIn}
-use Rattle.steps.specs.Steps.{stepAt, Given, IsStep}
-use Rattle.steps.proofs.Markers.{got-whole, whole-separator}
+use Rattle.layers.specs.LayerSums.{sumsOf}
+use Rattle.message.specs.MessageAnswers.{separatorAs}
+use Rattle.message.proofs.RepairedLayers.{is-read-message}
+use Rattle.message.proofs.Steps3to7.{part-is}
+use Rattle.message.proofs.ReceivedParts.{part-length, tail-part}
+use Rattle.steps.specs.Step8.{separatorIn}
+use Rattle.steps.specs.Steps.{stepAt, AtStart, IsStep}
+use Rattle.steps.proofs.Step1.{read-message-whole, whole-separator}
 use Rattle.steps.proofs.read_summed.Statement.{statement}
 use Rattle.steps.proofs.read_summed.Tie as tie
 
@@ -48,10 +48,10 @@ finished-requires c κs =
     let r = c .before .before .before .read-whole in
     let y = r .last .1 .1 .1 .1 .1 .0 in
     let n : length y ≡ k = omega arith in (
-      subst (λ (i : ℕ). Given (a .s .now) (a .rest .now) i (a .p) (a .f)) (sym n) (b .pre .0),
+      subst (λ (i : ℕ). AtStart (a .s .now) (a .rest .now) i (a .p) (a .f)) (sym n) (b .pre .0),
       (
         c .before .before .before .before .before .find-separator .ensures ∙ (ap separatorAs (whole-separator (a .marked) k (a .p) (a .s .now) (a .d) (h .1)) ∙ ap (λ (i : ℕ). separatorAs (separatorIn (a .marked) i (a .p) (a .s .now))) (sym n)),
-        is-got _ _ y (r .result) (ap (λ (i : ℕ). got (a .marked) i (drop (a .p) (a .s .now))) n ∙ got-whole (a .marked) k (a .p) (a .s .now) (a .d) (h .1) (h .0)) (r .ensures),
+        is-read-message _ _ y (r .result) (ap (λ (i : ℕ). readMessage (a .marked) i (drop (a .p) (a .s .now))) n ∙ read-message-whole (a .marked) k (a .p) (a .s .now) (a .d) (h .1) (h .0)) (r .ensures),
       ),
     )
 

@@ -3,12 +3,12 @@ use Prim.Native.Nat.{ℕ}
 use native.Mathlib.Omega.{arith}
 use borrow.Author.Needs.{needs}
 use lib.ListN.{length, drop}
-use Rattle.code.specs.Reading.{got}
-use Rattle.message.specs.Answers.{separatorAs}
-use Rattle.message.proofs.Mends.{is-got}
-use Rattle.ending.specs.Ends.{separatorIn}
-use Rattle.steps.specs.Steps.{stepAt, Given, IsStep}
-use Rattle.steps.proofs.Markers.{hit-separator, got-hit}
+use Rattle.code.specs.Reading.{readMessage}
+use Rattle.message.specs.MessageAnswers.{separatorAs}
+use Rattle.message.proofs.RepairedLayers.{is-read-message}
+use Rattle.steps.specs.Step8.{separatorIn}
+use Rattle.steps.specs.Steps.{stepAt, AtStart, IsStep}
+use Rattle.steps.proofs.Step1.{hit-separator, read-message-hit}
 use Rattle.steps.proofs.read_unmarked.Statement.{statement}
 use Rattle.steps.proofs.read_unmarked.Tie as tie
 
@@ -29,10 +29,10 @@ finished-requires c κs =
     let r = c .before .before .before .read-hit in
     let y = r .last .1 .1 .1 .0 in
     let n : length y ≡ k = omega arith in (
-      subst (λ (i : ℕ). Given (a .s .now) (a .rest .now) i (a .p) (a .f)) (sym n) (b .pre .0),
+      subst (λ (i : ℕ). AtStart (a .s .now) (a .rest .now) i (a .p) (a .f)) (sym n) (b .pre .0),
       (
         c .before .before .before .before .before .find-separator .ensures ∙ (ap separatorAs (hit-separator (a .marked) k (a .p) (a .s .now) (b .pre .1)) ∙ ap (λ (i : ℕ). separatorAs (separatorIn (a .marked) i (a .p) (a .s .now))) (sym n)),
-        is-got _ _ y (r .result) (ap (λ (i : ℕ). got (a .marked) i (drop (a .p) (a .s .now))) n ∙ got-hit (a .marked) k (a .p) (a .s .now) (b .pre .1)) (r .ensures),
+        is-read-message _ _ y (r .result) (ap (λ (i : ℕ). readMessage (a .marked) i (drop (a .p) (a .s .now))) n ∙ read-message-hit (a .marked) k (a .p) (a .s .now) (b .pre .1)) (r .ensures),
       ),
     )
 

@@ -4,7 +4,7 @@ use Prim.Native.Nat.{_-_, _≤_}
 use native.Mathlib.Omega.{arith}
 use lib.ListN.{length, drop}
 use Rattle.symbols.specs.Letters.{allLetters}
-use Rattle.symbols.proofs.Steps.{letters-turn, letters-end}
+use Rattle.symbols.proofs.Loops.{letters-turn, letters-end}
 use Rattle.symbols.proofs.all_letters.Statement.{statement}
 use Rattle.symbols.proofs.all_letters.Tie as tie
 

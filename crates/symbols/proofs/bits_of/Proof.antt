@@ -1,4 +1,4 @@
-use Rattle.symbols.proofs.Bits.{letter-bits}
+use Rattle.symbols.proofs.LetterBits.{letter-bits}
 use Rattle.symbols.proofs.bits_of.Statement.{statement}
 use Rattle.symbols.proofs.bits_of.Tie as tie
 

@@ -5,9 +5,9 @@ use native.Mathlib.Omega.{arith}
 use borrow.Author.Needs.{needs}
 use lib.ListN.{length, getD, take, drop, length-set}
 use Rattle.code.specs.declared.Letter.the-variants.{Symbol, Foreign}
-use Rattle.code.specs.Lists.{write-next, write-all}
+use Rattle.code.specs.laws.Lists.{write-next, write-all}
 use Rattle.code.specs.Symbols.{symbolOf, legible}
-use Rattle.symbols.proofs.Steps.{Letters, none-read, legible-next, one-more, verdict-foreign, length-foreign, verdict-whole, length-whole}
+use Rattle.symbols.proofs.Loops.{Letters, none-read, legible-next, one-more, verdict-foreign, length-foreign, verdict-whole, length-whole}
 use Rattle.symbols.proofs.decode.Statement.{statement}
 use Rattle.symbols.proofs.decode.Tie as tie
 

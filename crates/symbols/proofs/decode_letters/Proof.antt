@@ -4,10 +4,10 @@ use mathlib.Core.List.{_++_}
 use Prim.Native.Nat.{_+_, _-_, _<_, _≤_}
 use native.Mathlib.Omega.{arith}
 use lib.ListN.{length, take, drop, length-set}
-use Rattle.code.specs.Lists.{write-next, write-all}
+use Rattle.code.specs.laws.Lists.{write-next, write-all}
 use Rattle.code.specs.Symbols.{legible}
 use Rattle.symbols.specs.Letters.{allLetters}
-use Rattle.symbols.proofs.Steps.{Letters, none-read, legible-next, one-more, verdict-whole, length-whole, letters-next}
+use Rattle.symbols.proofs.Loops.{Letters, none-read, legible-next, one-more, verdict-whole, length-whole, letters-next}
 use Rattle.symbols.proofs.decode_letters.Statement.{statement}
 use Rattle.symbols.proofs.decode_letters.Tie as tie
 

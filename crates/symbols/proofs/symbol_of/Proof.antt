@@ -1,5 +1,5 @@
 use mathlib.Core.Path.{sym, _∙_}
-use Rattle.symbols.proofs.Bits.{no-letter}
+use Rattle.symbols.proofs.LetterBits.{no-letter}
 use Rattle.symbols.proofs.symbol_of.Statement.{statement}
 use Rattle.symbols.proofs.symbol_of.Tie as tie
 

@@ -3,7 +3,7 @@ use Prim.Native.Nat.{_+_, _-_, _*_, _≤_}
 use native.Mathlib.Omega.{arith}
 use lib.ListN.{length, drop}
 use Rattle.code.specs.Segment.{total, check}
-use Rattle.tail.proofs.Steps.{total-step, total-end}
+use Rattle.tail.proofs.SumsAndBits.{total-step, total-end}
 use Rattle.tail.proofs.check_of.Statement.{statement}
 use Rattle.tail.proofs.check_of.Tie as tie
 

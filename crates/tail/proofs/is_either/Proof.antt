@@ -1,5 +1,5 @@
 use lib.Dec.{eqb}
-use Rattle.tail.proofs.Steps.{either-digit}
+use Rattle.tail.proofs.SumsAndBits.{either-digit}
 use borrow.Author.Needs.{needs}
 use Rattle.tail.proofs.is_either.Statement.{statement}
 use Rattle.tail.proofs.is_either.Tie as tie

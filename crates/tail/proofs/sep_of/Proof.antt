@@ -4,7 +4,7 @@ use native.Mathlib.Omega.{arith}
 use lib.Bits.{bitAnd, and-le-r}
 use Rattle.code.specs.Layers.{digit}
 use Rattle.code.specs.Segment.{either, sep}
-use Rattle.tail.proofs.Steps.{sep-sum}
+use Rattle.tail.proofs.SumsAndBits.{sep-sum}
 use borrow.Author.Needs.{needs}
 use Rattle.tail.proofs.sep_of.Statement.{statement}
 use Rattle.tail.proofs.sep_of.Tie as tie

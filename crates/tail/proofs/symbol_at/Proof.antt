@@ -2,7 +2,7 @@ use mathlib.Core.Path.{ap₂}
 use Prim.Native.Nat.{ℕ, _+_, _*_, _/_, _^_}
 use native.Mathlib.Omega.{arith}
 use lib.Bits.{mask-lt}
-use Rattle.tail.proofs.Steps.{masked}
+use Rattle.tail.proofs.SumsAndBits.{masked}
 use borrow.Author.Needs.{needs}
 use Rattle.tail.proofs.symbol_at.Statement.{statement}
 use Rattle.tail.proofs.symbol_at.Tie as tie

@@ -4,8 +4,8 @@ use Prim.Native.Nat.{ℕ}
 use native.Mathlib.Omega.{arith}
 use lib.ListN.{length, getD}
 use Rattle.code.specs.Bounds.{widest}
-use Rattle.code.specs.LayersLaws.{width-least}
-use Rattle.code.specs.SegmentLaws.{check-below, length-syndrome, width-two}
+use Rattle.code.specs.laws.Layers.{width-least}
+use Rattle.code.specs.laws.Segment.{check-below, length-syndrome, width-two}
 use Rattle.tail.proofs.Tails.{is-tail, numbers-paired}
 use borrow.Author.Needs.{needs}
 use Rattle.tail.proofs.tail_given.Statement.{statement}

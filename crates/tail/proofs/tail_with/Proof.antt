@@ -3,8 +3,8 @@ use Prim.Native.Nat.{_-_}
 use native.Mathlib.Omega.{arith}
 use lib.ListN.{length}
 use Rattle.code.specs.Bounds.{widest}
-use Rattle.code.specs.LayersLaws.{width-least}
-use Rattle.code.specs.SegmentLaws.{check-below, width-two}
+use Rattle.code.specs.laws.Layers.{width-least}
+use Rattle.code.specs.laws.Segment.{check-below, width-two}
 use Rattle.layers.specs.declared.Summed.{Summed}
 use Rattle.tail.proofs.Tails.{is-tail, syndromes-paired, symbol-from}
 use borrow.Author.Needs.{needs}

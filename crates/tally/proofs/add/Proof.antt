@@ -1,6 +1,6 @@
 use mathlib.Core.Path.{sym, _∙_}
 use native.Mathlib.Omega.{arith}
-use Rattle.code.specs.TalliesLaws.{full-not}
+use Rattle.code.specs.laws.Tallies.{full-not}
 use Rattle.tally.proofs.add.Statement.{statement}
 use Rattle.tally.proofs.add.Tie as tie
 

@@ -1,0 +1,231 @@
+-- Laws of the judgement: the edit it names turns the written segment into the piece, no smaller place does, and it is missed only where one
+-- edit is not enough.
+use mathlib.Core.Path.{_≡_, refl, sym, ap, subst, _∙_}
+use mathlib.Core.Bool.{Bool, true, false, cond, _||_, true≢false}
+use mathlib.Core.List.{List, [], _∷_}
+use mathlib.Core.Logic.{⊎-elim}
+use mathlib.Core.Option.{some, none}
+use Prim.Native.Nat.{ℕ, zero, suc, _+_, _-_, _≤_, _<_}
+use native.Mathlib.Nat.{eq-or-lt-of-le, lt-of-not-le, not-suc-le-zero, le-of-suc-le-suc}
+use native.Mathlib.Omega.{arith}
+use lib.ListN.{length, getD, set}
+use lib.Seq.{getD-set-same}
+use Rattle.code.specs.Repair.{putIn, leaveOut}
+use Rattle.code.specs.Edits.{applied, Fits, same, firstEdit, judged}
+use Rattle.code.specs.laws.Edits.{same-refl, same-true}
+use Rattle.code.specs.declared.Edit.{Edit}
+use Rattle.code.specs.declared.Edit.the-variants.{None, Sub, Del, Ins}
+
+-- the place of an edit; no edit counts as the first place
+abbrev pub placeOf : Edit → ℕ
+placeOf None = 0
+placeOf (Sub i x) = i
+placeOf (Del i x) = i
+placeOf (Ins i x) = i
+
+module _ (w v : List ℕ) where
+  turns : Edit → Bool
+  turns e = same (applied e w) v
+
+  -- the edits that are tried at place i
+  subAt : ℕ → Edit
+  subAt i = Sub i (getD v i 0)
+
+  delAt : ℕ → Edit
+  delAt i = Del i (getD w i 0)
+
+  insAt : ℕ → Edit
+  insAt i = Ins i (getD v i 0)
+
+  -- one of them turns w into v
+  turnsAt : ℕ → Bool
+  turnsAt i = turns (subAt i) || (turns (delAt i) || turns (insAt i))
+
+  -- what a search from place i on found
+  record Smallest (i : ℕ) (e : Edit) : Type 0 where
+    gives : applied e w ≡ v
+    behind : i ≤ placeOf e
+    least : (j : ℕ) → i ≤ j → j < placeOf e → turnsAt j ≡ false
+
+  first-some : (i n : ℕ) (e : Edit) → firstEdit w v i n ≡ some e → Smallest i e
+  unfolding firstEdit turns subAt delAt insAt turnsAt
+  first-some i zero e h = let z : _≡_ {A = ℕ} 0 1 = cc in absurd (omega arith)
+  first-some i (suc n) e h = go (turns (subAt i)) (turns (delAt i)) (turns (insAt i)) refl refl refl h (λ q. first-some (suc i) n e q)
+    where
+      found : (d : Edit) → placeOf d ≡ i → turns d ≡ true → some d ≡ some e → Smallest i e
+      found d p t q =
+          let r : d ≡ e = cc in
+          subst (λ (x : Edit). Smallest i x) r (record { gives = same-true (applied d w) v t; behind = omega arith; least = λ j l k. absurd (omega arith) })
+
+      go : (a b c : Bool) → turns (subAt i) ≡ a → turns (delAt i) ≡ b → turns (insAt i) ≡ c → cond a (some (subAt i)) (cond b (some (delAt i)) (cond c (some (insAt i)) (firstEdit w v (suc i) n))) ≡ some e → (firstEdit w v (suc i) n ≡ some e → Smallest (suc i) e) → Smallest i e
+      go true b c p q r f next = found (subAt i) refl p f
+      go false true c p q r f next = found (delAt i) refl q f
+      go false false true p q r f next = found (insAt i) refl r f
+      go false false false p q r f next =
+          let s = next f in
+          record {
+            gives = s .gives;
+            behind = omega (arith, s .behind);
+            least = λ j l k. ⊎-elim (λ (g : i ≡ j). rw (← g, p, q, r)) (λ (g : i < j). s .least j g k) (eq-or-lt-of-le l);
+          }
+
+  first-none : (i n : ℕ) → firstEdit w v i n ≡ none → (j : ℕ) → i ≤ j → j < i + n → turnsAt j ≡ false
+  unfolding firstEdit turns subAt delAt insAt turnsAt
+  first-none i zero h j l k = absurd (omega arith)
+  first-none i (suc n) h j l k = go (turns (subAt i)) (turns (delAt i)) (turns (insAt i)) refl refl refl h (λ q r. first-none (suc i) n q j r (omega arith))
+    where
+      missed : (d : Edit) → some d ≡ none → turnsAt j ≡ false
+      missed d q = let z : _≡_ {A = ℕ} 0 1 = cc in absurd (omega arith)
+
+      go : (a b c : Bool) → turns (subAt i) ≡ a → turns (delAt i) ≡ b → turns (insAt i) ≡ c → cond a (some (subAt i)) (cond b (some (delAt i)) (cond c (some (insAt i)) (firstEdit w v (suc i) n))) ≡ none → (firstEdit w v (suc i) n ≡ none → i < j → turnsAt j ≡ false) → turnsAt j ≡ false
+      go true b c p q r f next = missed (subAt i) f
+      go false true c p q r f next = missed (delAt i) f
+      go false false true p q r f next = missed (insAt i) f
+      go false false false p q r f next = ⊎-elim (λ (g : i ≡ j). rw (← g, p, q, r)) (λ (g : i < j). next f g) (eq-or-lt-of-le l)
+
+put-at : (i x : ℕ) (w : List ℕ) → i ≤ length w → getD (putIn i x w) i 0 ≡ x
+put-at zero x w h = refl
+put-at (suc i) x [] h = absurd (not-suc-le-zero h)
+put-at (suc i) x (y ∷ w) h = put-at i x w (le-of-suc-le-suc h)
+
+or-left : (a b : Bool) → a ≡ true → (a || b) ≡ true
+or-left true b e = refl
+or-left false b e = cc
+
+or-right : (a b : Bool) → b ≡ true → (a || b) ≡ true
+or-right true b e = refl
+or-right false b e = e
+
+-- an edit that turns w into v is found at its place
+edit-turns : (w v : List ℕ) (e : Edit) → Fits e (length w) → applied e w ≡ v → (e ≡ None → ⊥) → turnsAt w v (placeOf e) ≡ true
+unfolding turns subAt delAt insAt turnsAt
+edit-turns w v None h t n = absurd (n refl)
+edit-turns w v (Sub i x) h t n =
+    let g : getD v i 0 ≡ x = rw (← t) (getD-set-same w i x 0 (h .0)) in
+    let s : turns w v (subAt w v i) ≡ true = rw (g, t) (same-refl v) in
+    or-left (turns w v (subAt w v i)) (turns w v (delAt w v i) || turns w v (insAt w v i)) s
+edit-turns w v (Del i x) h t n =
+    let s : turns w v (delAt w v i) ≡ true = rw t (same-refl v) in
+    or-right (turns w v (subAt w v i)) (turns w v (delAt w v i) || turns w v (insAt w v i)) (or-left (turns w v (delAt w v i)) (turns w v (insAt w v i)) s)
+edit-turns w v (Ins i x) h t n =
+    let g : getD v i 0 ≡ x = rw (← t) (put-at i x w (h .0)) in
+    let s : turns w v (insAt w v i) ≡ true = rw (g, t) (same-refl v) in
+    or-right (turns w v (subAt w v i)) (turns w v (delAt w v i) || turns w v (insAt w v i)) (or-right (turns w v (delAt w v i)) (turns w v (insAt w v i)) s)
+
+-- no edit, or another
+is-none : (e : Edit) → Dec (e ≡ None)
+is-none None = yes refl
+is-none (Sub i x) = no (λ e. let z : _≡_ {A = ℕ} 0 1 = cc in omega arith)
+is-none (Del i x) = no (λ e. let z : _≡_ {A = ℕ} 0 1 = cc in omega arith)
+is-none (Ins i x) = no (λ e. let z : _≡_ {A = ℕ} 0 1 = cc in omega arith)
+
+-- The judgement
+
+fits-place : (e : Edit) (n : ℕ) → Fits e n → placeOf e ≤ n
+fits-place None n h = omega arith
+fits-place (Sub i x) n h = omega (arith, h .0)
+fits-place (Del i x) n h = omega arith
+fits-place (Ins i x) n h = h .0
+
+module _ (w v : List ℕ) where
+  -- the named edit gives the piece, and no edit with a smaller place does
+  pub record Named (e : Edit) : Type 0 where
+    pub gives : applied e w ≡ v
+    pub smallest : (d : Edit) → Fits d (length w) → applied d w ≡ v → placeOf e ≤ placeOf d
+
+  unequal : (d : Edit) → same w v ≡ false → applied d w ≡ v → d ≡ None → ⊥
+  unequal d f t e =
+      let q : w ≡ v = sym (ap (λ (x : Edit). applied x w) e) ∙ t in
+      true≢false (sym (rw q (same-refl v)) ∙ f)
+
+  pub judged-named : (e : Edit) → judged w v ≡ some e → Named e
+  unfolding judged
+  judged-named e h = go (same w v) refl h
+    where
+      go : (b : Bool) → same w v ≡ b → cond b (some None) (firstEdit w v 0 (suc (length w))) ≡ some e → Named e
+      go true q f =
+          let r : None ≡ e = cc in
+          subst (λ (x : Edit). Named x) r (record { gives = same-true w v q; smallest = λ d k t. omega arith })
+      go false q f =
+          let s = first-some w v 0 (suc (length w)) e f in
+          record {
+            gives = s .gives;
+            smallest = λ d k t.
+                le-of-suc-le-suc (lt-of-not-le (λ l. true≢false (sym (edit-turns w v d k t (unequal d q t)) ∙ s .least (placeOf d) (omega arith) l)));
+          }
+
+  -- where no edit is named, one is not enough
+  pub judged-none : judged w v ≡ none → (d : Edit) → Fits d (length w) → applied d w ≡ v → ⊥
+  unfolding judged
+  judged-none h d k t = go (same w v) refl h
+    where
+      go : (b : Bool) → same w v ≡ b → cond b (some None) (firstEdit w v 0 (suc (length w))) ≡ none → ⊥
+      go true q f = let z : _≡_ {A = ℕ} 0 1 = cc in omega arith
+      go false q f =
+          let l = fits-place d (length w) k in
+          true≢false (sym (edit-turns w v d k t (unequal d q t)) ∙ first-none w v 0 (suc (length w)) f (placeOf d) (omega arith) (omega arith))
+
+-- What the judgement is, by what each place gives
+
+-- no edit that is tried at place j turns w into v
+pub record Misses (w v : List ℕ) (j : ℕ) : Type 0 where
+  pub sub : set w j (getD v j 0) ≡ v → ⊥
+  pub del : leaveOut j w ≡ v → ⊥
+  pub ins : putIn j (getD v j 0) w ≡ v → ⊥
+
+same-false : (w v : List ℕ) → (w ≡ v → ⊥) → same w v ≡ false
+same-false w v n = go (same w v) refl
+  where
+    go : (b : Bool) → same w v ≡ b → b ≡ false
+    go true e = absurd (n (same-true w v e))
+    go false e = refl
+
+same-yes : (w v : List ℕ) → w ≡ v → same w v ≡ true
+same-yes w v e = rw e (same-refl v)
+
+pub judged-same : (w v : List ℕ) → w ≡ v → judged w v ≡ some None
+unfolding judged
+judged-same w v e = rw (same-yes w v e)
+
+module _ (w v : List ℕ) where
+  -- places that miss are passed over
+  first-skip : (d i n m q : ℕ) → m ≡ d + n → q ≡ i + d → ((j : ℕ) → i ≤ j → j < q → Misses w v j) → firstEdit w v i m ≡ firstEdit w v q n
+  unfolding firstEdit
+  first-skip zero i n m q e f h =
+      let g : m ≡ n = omega arith in
+      let k : q ≡ i = omega arith in
+      rw (g, k)
+  first-skip (suc d) i n m q e f h =
+      let s = h i (omega arith) (omega arith) in
+      let g : m ≡ suc (d + n) = omega arith in
+      rw (g, same-false (set w i (getD v i 0)) v (s .sub), same-false (leaveOut i w) v (s .del), same-false (putIn i (getD v i 0) w) v (s .ins))
+      (first-skip d (suc i) n (d + n) q refl (omega arith) (λ j l k. h j (omega arith) k))
+
+  module _ (differ : w ≡ v → ⊥) where
+    judged-first : judged w v ≡ firstEdit w v 0 (suc (length w))
+    unfolding judged
+    judged-first = rw (same-false w v differ)
+
+    -- no place gives the piece
+    pub judged-missed : ((j : ℕ) → j ≤ length w → Misses w v j) → judged w v ≡ none
+    unfolding firstEdit
+    judged-missed m = judged-first ∙ first-skip (suc (length w)) 0 0 (suc (length w)) (suc (length w)) (omega arith) (omega arith) (λ j l k. m j (omega arith))
+
+    -- p is the first place that gives the piece
+    module _ (p : ℕ) (inside : p ≤ length w) (before : (j : ℕ) → j < p → Misses w v j) where
+      judged-at : judged w v ≡ firstEdit w v p (suc (length w - p))
+      judged-at = judged-first ∙ first-skip p 0 (suc (length w - p)) (suc (length w)) p (omega arith) (omega arith) (λ j l k. before j k)
+
+      pub judged-sub : set w p (getD v p 0) ≡ v → judged w v ≡ some (Sub p (getD v p 0))
+      unfolding firstEdit
+      judged-sub t = judged-at ∙ rw (same-yes (set w p (getD v p 0)) v t)
+
+      pub judged-del : (set w p (getD v p 0) ≡ v → ⊥) → leaveOut p w ≡ v → judged w v ≡ some (Del p (getD w p 0))
+      unfolding firstEdit
+      judged-del s t = judged-at ∙ rw (same-false (set w p (getD v p 0)) v s, same-yes (leaveOut p w) v t)
+
+      pub judged-ins : (set w p (getD v p 0) ≡ v → ⊥) → (leaveOut p w ≡ v → ⊥) → putIn p (getD v p 0) w ≡ v → judged w v ≡ some (Ins p (getD v p 0))
+      unfolding firstEdit
+      judged-ins s d t =
+          judged-at
+          ∙ rw (same-false (set w p (getD v p 0)) v s, same-false (leaveOut p w) v d, same-yes (putIn p (getD v p 0) w) v t)

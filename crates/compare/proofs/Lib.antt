@@ -1,3 +1,0 @@
-pub mod Standing
-pub mod Moving
-pub mod Eight

@@ -1,4 +1,0 @@
-pub mod Offsets
-pub mod OffsetsLaws
-pub mod Words
-pub mod WordsLaws

@@ -1,2 +1,0 @@
-pub mod Digit
-pub mod DigitLaws

@@ -1,0 +1,3 @@
+pub mod LeftOut
+pub mod SharedFront
+pub mod Judgement

@@ -1,2 +1,0 @@
-pub mod Equal
-pub mod Spans

@@ -1,2 +1,0 @@
-pub mod Sighting
-pub mod Syndromes

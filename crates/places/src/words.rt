@@ -1,0 +1,20 @@
+// Eight symbols as one number.
+ghost use mathlib.Core.Path.{_≡_};
+ghost use Prim.Native.Nat.{_+_, _≤_};
+ghost use lib.ListN.{length, take, drop};
+ghost use Rattle.places.specs.Words.{wordOf};
+
+// Eight symbols from place i on as one number, the first in its lowest byte.
+pub fn eight_at(s: &[u8], i: usize) -> u64
+    requires { ⌜ i + 8 ≤ length (now s) ⌝ }
+    ensures { λ r. ⌜ r ≡ wordOf (take 8 (drop i (now (s .entry)))) ⌝ }
+{
+    s[i] as u64
+        + 256 * (s[i + 1] as u64)
+        + 65536 * (s[i + 2] as u64)
+        + 16777216 * (s[i + 3] as u64)
+        + 4294967296 * (s[i + 4] as u64)
+        + 1099511627776 * (s[i + 5] as u64)
+        + 281474976710656 * (s[i + 6] as u64)
+        + 72057594037927936 * (s[i + 7] as u64)
+}

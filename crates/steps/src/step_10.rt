@@ -1,0 +1,42 @@
+// Step 10: a lost segment, and where the search for the next one finds it.
+use crate::Answer;
+use code::Verdict;
+use copying::put_zeros;
+use scan::Next;
+use scan::find_clean;
+use segment::size_of;
+ghost use mathlib.Core.Path.{_≡_};
+ghost use Prim.Native.Nat.{_≤_};
+ghost use lib.ListN.{length};
+ghost use Rattle.code.specs.Bounds.{longest, Length, Received};
+ghost use Rattle.code.specs.Layout.{Lengths};
+ghost use Rattle.scan.specs.Scans.{startOf, Known};
+ghost use Rattle.steps.specs.Steps.{lostAt, SteppedLost};
+
+// Step 10: where the segment behind a lost one of k message symbols starts; `rest` is the lengths behind it.
+fn scan_behind(s: &[u8], p: usize, marked: bool, k: usize, rest: &[usize]) -> Next
+    requires { ⌜ Received (now s) ⌝ }
+    requires { ⌜ (p ≤ length (now s)) × Length k ⌝ }
+    requires { ⌜ Lengths longest (now rest) ⌝ }
+    ensures { λ r. ⌜ startOf r ≡ lostAt marked k (now (rest .entry)) p (now (s .entry)) 0 .next ⌝ }
+    ensures { λ r. ⌜ Known (now (s .entry)) (now (rest .entry)) r ⌝ }
+{
+    if rest.len() == 0 {
+        return Next::Nowhere;
+    }
+    find_clean(s, p, size_of(marked, k), rest[0], 17, true, 0)
+}
+
+// A segment at p that a step loses comes straight to step 10.
+pub fn lost(s: &[u8], p: usize, marked: bool, rest: &[usize], step: u8, out: &mut [u8]) -> Answer
+    requires { ⌜ Received (now s) ⌝ }
+    requires { ⌜ (p ≤ length (now s)) × Length (length (now out)) ⌝ }
+    requires { ⌜ Lengths longest (now rest) ⌝ }
+    ensures { λ r. ⌜ SteppedLost marked step p (now (s .entry)) (now (rest .entry)) (now (out .entry)) (now (out .exit)) r ⌝ }
+{
+    put_zeros(out);
+    Answer {
+        verdict: Verdict::Lost(step),
+        next: scan_behind(s, p, marked, out.len(), rest),
+    }
+}
