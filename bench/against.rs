@@ -2,36 +2,49 @@
 
 use super::ffi::{Counts, Written};
 
+/// It takes lengths that are not equal.
+pub const MIXED: bool = true;
+
 extern "C" {
     fn other_dnalm_write(
-        k: u32,
+        lengths: *const u16,
+        lengths_count: usize,
         b: u32,
         message: *const u8,
-        message_len: usize,
+        message_length: usize,
         out: *mut u8,
-        out_len: usize,
+        out_length: usize,
     ) -> Written;
     fn other_dnalm_read(
-        k: u32,
+        lengths: *const u16,
+        lengths_count: usize,
         b: u32,
         letters: *const u8,
-        letters_len: usize,
+        letters_length: usize,
         message: *mut u8,
-        message_len: usize,
+        message_length: usize,
         sheet: *mut u8,
-        sheet_len: usize,
+        sheet_length: usize,
     ) -> Counts;
 }
 
-pub fn write(k: u32, b: u32, message: &[u8], out: &mut [u8]) -> Option<usize> {
-    let (message_ptr, message_len) = (message.as_ptr(), message.len());
-    let (out_ptr, out_len) = (out.as_mut_ptr(), out.len());
-    let got = unsafe { other_dnalm_write(k, b, message_ptr, message_len, out_ptr, out_len) };
-    (got.refusal == 0).then_some(got.letters)
+pub fn write(lengths: &[u16], b: u32, message: &[u8], out: &mut [u8]) -> Option<usize> {
+    let got = unsafe {
+        other_dnalm_write(
+            lengths.as_ptr(),
+            lengths.len(),
+            b,
+            message.as_ptr(),
+            message.len(),
+            out.as_mut_ptr(),
+            out.len(),
+        )
+    };
+    (got.refusal == 0).then_some(got.length)
 }
 
 pub fn read(
-    k: u32,
+    lengths: &[u16],
     b: u32,
     letters: &[u8],
     message: &mut [u8],
@@ -39,7 +52,8 @@ pub fn read(
 ) -> Option<[u32; 3]> {
     let got = unsafe {
         other_dnalm_read(
-            k,
+            lengths.as_ptr(),
+            lengths.len(),
             b,
             letters.as_ptr(),
             letters.len(),

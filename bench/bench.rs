@@ -7,7 +7,8 @@ mod ffi;
 #[path = "../tests/outside/strands.rs"]
 mod strands;
 #[allow(dead_code)]
-#[cfg_attr(against, path = "against.rs")]
+#[cfg_attr(against = "lengths", path = "against.rs")]
+#[cfg_attr(against = "k", path = "against_k.rs")]
 mod tuned;
 
 use std::hint::black_box;
@@ -16,7 +17,11 @@ use std::time::Instant;
 use strands::{Damage, Rng};
 
 /// The other side's name in the table.
-const RIVAL: &str = if cfg!(against) { "other" } else { "tuned" };
+const RIVAL: &str = if cfg!(any(against = "lengths", against = "k")) {
+    "other"
+} else {
+    "tuned"
+};
 const SEED: u64 = 20;
 const STRANDS: usize = 64;
 const ROUNDS: usize = 400;
@@ -47,39 +52,23 @@ impl Room {
 }
 
 #[inline(never)]
-fn write_one(side: Side, k: u32, b: u32, message: &[u8], room: &mut Room) -> usize {
+fn write_one(side: Side, lengths: &[u16], b: u32, message: &[u8], room: &mut Room) -> usize {
     let out = &mut room.strand;
     match side {
-        Side::Library => {
-            let (out_ptr, out_len) = (out.as_mut_ptr(), out.len());
-            let (message_ptr, message_len) = (message.as_ptr(), message.len());
-            let got = unsafe { ffi::dnalm_write(k, b, message_ptr, message_len, out_ptr, out_len) };
-            got.letters
-        }
-        Side::Tuned => tuned::write(k, b, message, out).unwrap_or(0),
+        Side::Library => ffi::write(lengths, b, message, out).length,
+        Side::Tuned => tuned::write(lengths, b, message, out).unwrap_or(0),
     }
 }
 
 #[inline(never)]
-fn read_one(side: Side, k: u32, b: u32, letters: &[u8], room: &mut Room) -> [u32; 3] {
+fn read_one(side: Side, lengths: &[u16], b: u32, letters: &[u8], room: &mut Room) -> [u32; 3] {
     let (message, sheet) = (&mut room.message, &mut room.sheet);
     match side {
         Side::Library => {
-            let got = unsafe {
-                ffi::dnalm_read(
-                    k,
-                    b,
-                    letters.as_ptr(),
-                    letters.len(),
-                    message.as_mut_ptr(),
-                    message.len(),
-                    sheet.as_mut_ptr(),
-                    sheet.len(),
-                )
-            };
+            let got = ffi::read(lengths, b, letters, message, sheet);
             [got.clean, got.corrected, got.lost]
         }
-        Side::Tuned => tuned::read(k, b, letters, message, sheet).unwrap_or([0; 3]),
+        Side::Tuned => tuned::read(lengths, b, letters, message, sheet).unwrap_or([0; 3]),
     }
 }
 
@@ -92,24 +81,24 @@ enum Job {
 }
 
 struct Set {
-    k: u32,
+    lengths: Vec<u16>,
     b: u32,
     messages: Vec<Vec<u8>>,
     strands: Vec<Vec<u8>>,
 }
 
-fn set(job: Job, k: u32, b: u32) -> Set {
-    let mut rng = Rng::new(SEED, (k * 1000 + b) as u64);
+fn set(job: Job, lengths: &[u16], b: u32) -> Set {
+    let mut rng = Rng::new(SEED, (lengths[0] as u32 * 1000 + b) as u64);
     let mut messages = Vec::new();
     let mut all = Vec::new();
     for _ in 0..STRANDS {
         let message = rng.bytes(b as usize);
         let mut room = Room::new();
-        let letters = write_one(Side::Tuned, k, b, &message, &mut room);
+        let letters = write_one(Side::Tuned, lengths, b, &message, &mut room);
         let strand = &room.strand[..letters];
         all.push(match job {
             Job::Write | Job::Untouched => strand.to_vec(),
-            Job::OneEdit => strands::one_edit(&mut rng, k, b, strand),
+            Job::OneEdit => strands::one_edit(&mut rng, lengths, strand),
             Job::Damaged => {
                 let damages = [
                     Damage::Crowded,
@@ -122,13 +111,13 @@ fn set(job: Job, k: u32, b: u32) -> Set {
                     Damage::OneBad,
                 ];
                 let damage = rng.of(&damages);
-                strands::damaged(&mut rng, damage, k, b, strand)
+                strands::damaged(&mut rng, damage, lengths, strand)
             }
         });
         messages.push(message);
     }
     Set {
-        k,
+        lengths: lengths.to_vec(),
         b,
         messages,
         strands: all,
@@ -137,14 +126,14 @@ fn set(job: Job, k: u32, b: u32) -> Set {
 
 /// One pass over the set.
 fn pass(side: Side, job: Job, set: &Set, room: &mut Room) {
-    let (k, b) = (black_box(set.k), black_box(set.b));
+    let (lengths, b) = (black_box(&set.lengths), black_box(set.b));
     if job == Job::Write {
         for message in &set.messages {
-            black_box(write_one(side, k, b, black_box(message), room));
+            black_box(write_one(side, lengths, b, black_box(message), room));
         }
     } else {
         for strand in &set.strands {
-            black_box(read_one(side, k, b, black_box(strand), room));
+            black_box(read_one(side, lengths, b, black_box(strand), room));
         }
     }
     black_box(room);
@@ -153,20 +142,21 @@ fn pass(side: Side, job: Job, set: &Set, room: &mut Room) {
 /// Both sides give the same answers on the set.
 fn agree(job: Job, set: &Set) {
     let (mut one, mut other) = (Room::new(), Room::new());
+    let (lengths, b) = (&set.lengths, set.b);
     for (message, strand) in set.messages.iter().zip(&set.strands) {
         let same = if job == Job::Write {
-            write_one(Side::Library, set.k, set.b, message, &mut one)
-                == write_one(Side::Tuned, set.k, set.b, message, &mut other)
+            write_one(Side::Library, lengths, b, message, &mut one)
+                == write_one(Side::Tuned, lengths, b, message, &mut other)
         } else {
-            read_one(Side::Library, set.k, set.b, strand, &mut one)
-                == read_one(Side::Tuned, set.k, set.b, strand, &mut other)
+            read_one(Side::Library, lengths, b, strand, &mut one)
+                == read_one(Side::Tuned, lengths, b, strand, &mut other)
         };
         if !same
             || one.strand != other.strand
             || one.message != other.message
             || one.sheet != other.sheet
         {
-            println!("disagreement: k {} B {}", set.k, set.b);
+            println!("disagreement: lengths {lengths:?} B {b}");
             exit(1);
         }
     }
@@ -208,20 +198,39 @@ fn measure(job: Job, set: &Set) -> Measured {
     }
 }
 
+/// Short segments at the ends.
+const MIXED: [u16; 12] = [8, 8, 16, 16, 32, 64, 64, 32, 16, 16, 8, 8];
+
+/// The layouts of the table, by name.
+fn layouts() -> Vec<(&'static str, Vec<u16>, u32)> {
+    let equal = |name, k, b| (name, strands::equal_lengths(k, b), b);
+    let mut layouts = vec![
+        equal("k=16 B=32", 16, 32),
+        equal("k=64 B=128", 64, 128),
+        equal("k=8 B=128", 8, 128),
+        equal("k=2 B=1", 2, 1),
+        equal("k=24 B=72", 24, 72),
+    ];
+    if tuned::MIXED {
+        layouts.push(("8 to 64 B=72", MIXED.to_vec(), 72));
+    }
+    layouts
+}
+
 fn table() {
     println!("million letters a second, best of {ROUNDS} rounds; ratio library/{RIVAL}, median");
     println!("{:<28} {:>9} {:>9} {:>7}", "", "library", RIVAL, "ratio");
-    for (k, b) in [(16, 32), (64, 128), (8, 128), (2, 1)] {
+    for (layout, lengths, b) in layouts() {
         for (name, job) in [
             ("write", Job::Write),
             ("read untouched", Job::Untouched),
             ("read one-edit", Job::OneEdit),
             ("read damaged", Job::Damaged),
         ] {
-            let set = set(job, k, b);
+            let set = set(job, &lengths, b);
             agree(job, &set);
             let measured = measure(job, &set);
-            let row = format!("k={k} B={b} {name}");
+            let row = format!("{layout} {name}");
             let ([library, rival], ratio) = (measured.best, measured.ratio);
             println!("{row:<28} {library:>9.1} {rival:>9.1} {ratio:>7.2}");
         }
@@ -230,23 +239,24 @@ fn table() {
 
 /// N readings of a fixed set of strands with k=16, for counting instructions.
 fn work(side: &str, b: u32, count: usize) {
-    let k = 16;
+    let lengths = &strands::equal_lengths(16, b);
     let mut strands = Vec::new();
     for job in [Job::Untouched, Job::OneEdit, Job::Damaged] {
-        strands.extend(set(job, k, b).strands.into_iter().take(8));
+        strands.extend(set(job, lengths, b).strands.into_iter().take(8));
     }
     let mut room = Room::new();
     let mut letters = 0;
+    let mut read = |side, strand| read_one(side, lengths, b, black_box(strand), &mut room);
     for strand in strands.iter().cycle().take(count) {
         letters += strand.len();
-        match side {
-            "library" => black_box(read_one(Side::Library, k, b, black_box(strand), &mut room)),
-            "tuned" => black_box(read_one(Side::Tuned, k, b, black_box(strand), &mut room)),
+        black_box(match side {
+            "library" => read(Side::Library, strand),
+            "tuned" => read(Side::Tuned, strand),
             "none" => [0; 3],
             _ => usage(),
-        };
+        });
     }
-    println!("{side} k={k} B={b}: {count} readings, {letters} letters");
+    println!("{side} k=16 B={b}: {count} readings, {letters} letters");
 }
 
 fn usage() -> ! {

@@ -1,6 +1,9 @@
 //! The independent reader and writer of DNA-LM strands, tuned by hand: safe Rust, no allocation.
 //! It keeps the ten reading steps of docs/SPECIFICATION.md, the symbols of the strand in an array of 2,048,
-//! and a verdict for each segment, from which mark, sheet and counts are taken.
+//! and a verdict for each segment, from which mark, sheet and counts are taken. Equal lengths have a walk of their own.
+
+/// It takes lengths that are not equal.
+pub const MIXED: bool = true;
 
 /// A refusal by its number in the table; the place is given for 6 alone.
 #[derive(Clone, Copy, Debug, PartialEq, Eq)]
@@ -63,10 +66,10 @@ impl<const K: usize, const C: usize> Shape<K, C> {
     const NARROW: usize = 7 - Self::T;
 }
 
-/// Calls a function for k with K and C as constants.
+/// Calls a function for k with K and C as constants; the last answer is for a k outside the limits.
 macro_rules! by_k {
-    ($k:expr, $call:ident $arguments:tt) => {
-        by_k! { @ $k, $call $arguments,
+    ($k:expr, $call:ident $arguments:tt, $otherwise:expr) => {
+        by_k! { @ $k, $call $arguments, $otherwise;
             1: 2 3 4 5 6 7 8,
             2: 9 10 11 12 13 14 15 16,
             3: 17 18 19 20 21 22 23 24,
@@ -77,10 +80,10 @@ macro_rules! by_k {
             8: 57 58 59 60 61 62 63 64
         }
     };
-    (@ $k:expr, $call:ident $arguments:tt, $($c:literal: $($of:literal)*),*) => {
+    (@ $k:expr, $call:ident $arguments:tt, $otherwise:expr; $($c:literal: $($of:literal)*),*) => {
         match $k {
             $($($of => by_k!(@ $call, $of, $c, $arguments),)*)*
-            _ => return refuse(1),
+            _ => $otherwise,
         }
     };
     (@ $call:ident, $of:literal, $c:literal, ($($argument:expr),*)) => {
@@ -122,17 +125,6 @@ static BITS: [u64; 128] = {
             i += 1;
         }
         v += 1;
-    }
-    table
-};
-
-/// Factors that divide by the index, of numbers up to 512.
-static INVERSES: [u64; 128] = {
-    let mut table = [0; 128];
-    let mut k = 2;
-    while k <= 64 {
-        table[k] = (1 << 32) / k as u64 + 1;
-        k += 1;
     }
     table
 };
@@ -235,31 +227,43 @@ fn refuse<T>(number: u32) -> Result<T, Refused> {
     Err(Refused { number, place: 0 })
 }
 
-/// Tests 1, 2 and 3; hands back the number of segments.
+/// Tests 1, 2 and 3; hands back the length where all are equal.
 #[inline(always)]
-fn segments_of(k: u32, b: u32, length: Option<usize>) -> Result<usize, Refused> {
-    if !(2..=64).contains(&k) {
+fn equal_length(lengths: &[u16], b: u32, message: Option<usize>) -> Result<Option<u16>, Refused> {
+    let first = lengths.first().copied().unwrap_or(2);
+    let differ = lengths.iter().fold(0, |differ, k| differ | k ^ first);
+    let outside = |k: u16| !(2..=64).contains(&k);
+    if outside(first) || differ != 0 && lengths.iter().any(|&k| outside(k)) {
         return refuse(1);
     }
-    if !(1..=128).contains(&b) || length.is_some_and(|length| length != b as usize) {
+    if !(1..=128).contains(&b) || message.is_some_and(|length| length != b as usize) {
         return refuse(2);
     }
-    let l = (4 * b as u64 * INVERSES[k as usize & 127] >> 32) as u32;
-    if l * k != 4 * b || l > 64 {
+    if !(1..=64).contains(&lengths.len()) {
         return refuse(3);
     }
-    Ok(l as usize)
+    let sum = if differ == 0 {
+        lengths.len() as u32 * first as u32
+    } else {
+        lengths.iter().map(|&k| k as u32).sum()
+    };
+    if sum != 4 * b {
+        return refuse(3);
+    }
+    Ok((differ == 0).then_some(first))
 }
 
 /// Writes the strand of a message; hands back its number of letters.
-pub fn write(k: u32, b: u32, message: &[u8], out: &mut [u8]) -> Result<usize, Refused> {
-    let l = segments_of(k, b, Some(message.len()))?;
-    by_k!(k, write_all(l, message, out))
+pub fn write(lengths: &[u16], b: u32, message: &[u8], out: &mut [u8]) -> Result<usize, Refused> {
+    match equal_length(lengths, b, Some(message.len()))? {
+        Some(k) => by_k!(k, write_equal(lengths.len(), message, out), refuse(1)),
+        None => write_mixed(lengths, message, out),
+    }
 }
 
-/// Test 5, and the letters of all l segments.
+/// Test 5, and the letters of l segments of equal lengths.
 #[inline(never)]
-fn write_all<const K: usize, const C: usize>(
+fn write_equal<const K: usize, const C: usize>(
     l: usize,
     message: &[u8],
     out: &mut [u8],
@@ -270,7 +274,7 @@ fn write_all<const K: usize, const C: usize>(
     };
     let mut f = 0;
     for i in 0..l {
-        let part = part_of::<K>(message, i);
+        let part = part_of::<K>(message, i * K, K % 4 == 0);
         if i > 0 {
             let Some((marker, more)) = rest.split_first_chunk_mut::<2>() else {
                 return refuse(5);
@@ -287,17 +291,52 @@ fn write_all<const K: usize, const C: usize>(
     Ok(length)
 }
 
-/// The bytes of one segment's message, spare bits zero.
+/// Test 5, and the letters of segments that have lengths of their own.
+#[inline(never)]
+fn write_mixed(lengths: &[u16], message: &[u8], out: &mut [u8]) -> Result<usize, Refused> {
+    let written = |&k: &u16| k as usize + 22 - (2 * k - 1).leading_zeros() as usize;
+    let length = lengths.iter().map(written).sum::<usize>() - 2;
+    let Some(mut rest) = out.get_mut(..length) else {
+        return refuse(5);
+    };
+    let (mut f, mut at) = (None, 0);
+    for &k in lengths {
+        let (last, more) = by_k!(k, write_segment(message, at, f, rest), return refuse(1));
+        (f, rest) = (Some(last), more);
+        at += k as usize;
+    }
+    Ok(length)
+}
+
+/// One segment from the message's symbol at a place on; hands back its last symbol, and the room behind it.
+#[inline(never)]
+fn write_segment<'a, const K: usize, const C: usize>(
+    message: &[u8],
+    at: usize,
+    f: Option<u8>,
+    mut out: &'a mut [u8],
+) -> (u8, &'a mut [u8]) {
+    let part = part_of::<K>(message, at, K % 4 == 0 && at % 4 == 0);
+    if let Some(f) = f {
+        let (marker, more) = out.split_at_mut(2);
+        marker.fill(LETTERS[SEP[(f << 4 | part[0] >> 4) as usize & 63] as usize & 3]);
+        out = more;
+    }
+    let (body, rest) = out.split_at_mut(Shape::<K, C>::BODY);
+    (write_body::<K, C>(&part, body), rest)
+}
+
+/// The bytes of one segment's message, from the symbol at a place on, spare bits zero; whole ones are copied.
 #[inline(always)]
-fn part_of<const K: usize>(message: &[u8], i: usize) -> [u8; 16] {
+fn part_of<const K: usize>(message: &[u8], at: usize, whole: bool) -> [u8; 16] {
     let bytes = K.div_ceil(4);
-    let at = i * K / 4;
+    let shift = at % 4 * 2;
+    let at = at / 4;
     let mut part = [0; 16];
-    if K % 4 == 0 {
+    if whole {
         part[..bytes].copy_from_slice(&message[at..at + bytes]);
         return part;
     }
-    let shift = i * K % 4 * 2;
     let mut byte = message[at] as u32;
     for (j, part) in part[..bytes].iter_mut().enumerate() {
         let next = message.get(at + j + 1).copied().unwrap_or(0) as u32;
@@ -839,19 +878,40 @@ fn clean_at<const K: usize, const C: usize>(strand: &Strand, p: usize, f: u8) ->
     Tail::of::<K, C>(&x).stands::<K, C>(near)
 }
 
-/// Step 8, where the syndrome does not tell the end.
-#[inline(always)]
-fn end_by_next<const K: usize, const C: usize>(
-    strand: &Strand,
-    own: usize,
-    f: u8,
-) -> Option<usize> {
-    [own, own - 1, own + 1]
-        .into_iter()
-        .find(|&end| clean_at::<K, C>(strand, end, f))
+/// The segment after one that is read.
+trait Next {
+    fn clean_at(&self, strand: &Strand, p: usize, f: u8) -> bool;
 }
 
-/// Step 10: the start of the next clean segment.
+/// It has the same length.
+struct Same<const K: usize, const C: usize>;
+
+impl<const K: usize, const C: usize> Next for Same<K, C> {
+    #[inline(always)]
+    fn clean_at(&self, strand: &Strand, p: usize, f: u8) -> bool {
+        clean_at::<K, C>(strand, p, f)
+    }
+}
+
+/// It has this length.
+struct Other(u16);
+
+impl Next for Other {
+    #[inline(always)]
+    fn clean_at(&self, strand: &Strand, p: usize, f: u8) -> bool {
+        by_k!(self.0, clean_at(strand, p, f), false)
+    }
+}
+
+/// Step 8, where the syndrome does not tell the end.
+#[inline(always)]
+fn end_by_next(strand: &Strand, own: usize, f: u8, next: &impl Next) -> Option<usize> {
+    [own, own - 1, own + 1]
+        .into_iter()
+        .find(|&end| next.clean_at(strand, end, f))
+}
+
+/// Step 10: the start of the next clean segment, which has K symbols.
 #[inline(never)]
 fn scan<const K: usize, const C: usize>(strand: &Strand, p: usize, own: usize) -> Option<usize> {
     // A start needs two equal symbols for its marker and three for its separator.
@@ -926,6 +986,7 @@ fn segment_at<const K: usize, const C: usize>(
     p: usize,
     f: Option<u8>,
     last: bool,
+    next: impl Next,
 ) -> Result<Segment<C>, u32> {
     let spare;
     let w = match strand.window(p) {
@@ -995,7 +1056,7 @@ fn segment_at<const K: usize, const C: usize>(
     } else if agrees {
         (own as isize + j.unwrap_or(0)) as usize
     } else {
-        match end_by_next::<K, C>(strand, own, f_next) {
+        match end_by_next(strand, own, f_next, &next) {
             Some(end) => end,
             None => return Err(8),
         }
@@ -1034,10 +1095,21 @@ struct Packer<'a> {
     count: usize,
 }
 
-impl Packer<'_> {
+impl<'a> Packer<'a> {
     #[inline(always)]
-    fn put<const K: usize, const C: usize>(&mut self, x: &[u64; C]) {
-        if K % 4 == 0 {
+    fn new(message: &'a mut [u8]) -> Packer<'a> {
+        Packer {
+            message,
+            at: 0,
+            bits: 0,
+            count: 0,
+        }
+    }
+
+    /// Whole bytes are put in at once, where none is begun.
+    #[inline(always)]
+    fn put<const K: usize, const C: usize>(&mut self, x: &[u64; C], whole: bool) {
+        if whole {
             if let Some(part) = self.message.get_mut(self.at..self.at + K / 4) {
                 for c in 0..K / 8 {
                     part[2 * c..2 * c + 2].copy_from_slice(&packed(x[c]).to_be_bytes());
@@ -1090,6 +1162,15 @@ struct Sheet {
 
 impl Sheet {
     #[inline(always)]
+    fn new() -> Sheet {
+        Sheet {
+            marks: 0,
+            corrected: 0,
+            lost: 0,
+        }
+    }
+
+    #[inline(always)]
     fn add(&mut self, verdict: Verdict) {
         let mark = mark(verdict) as u32;
         self.corrected += mark & 1;
@@ -1098,24 +1179,16 @@ impl Sheet {
     }
 }
 
-/// Reads all l segments.
+/// Reads l segments of equal lengths.
 #[inline(never)]
-fn read_all<const K: usize, const C: usize>(
+fn read_equal<const K: usize, const C: usize>(
     l: usize,
     strand: &Strand,
     message: &mut [u8],
 ) -> Sheet {
-    let mut packer = Packer {
-        message,
-        at: 0,
-        bits: 0,
-        count: 0,
-    };
-    let mut sheet = Sheet {
-        marks: 0,
-        corrected: 0,
-        lost: 0,
-    };
+    let mut packer = Packer::new(message);
+    let mut sheet = Sheet::new();
+    let whole = K % 4 == 0;
     let (mut p, mut f) = (0, None);
     let mut i = 0;
     while i < l {
@@ -1126,19 +1199,19 @@ fn read_all<const K: usize, const C: usize>(
             Some(f) => clean_segment_at::<K, C>(strand, p, Some(f), last),
         };
         if let Some(segment) = clean {
-            packer.put::<K, C>(&segment.message);
+            packer.put::<K, C>(&segment.message, whole);
             sheet.add(Verdict::Read(segment.edit));
             (p, f) = (segment.end, Some(segment.f));
             continue;
         }
-        match segment_at::<K, C>(strand, p, f, last) {
+        match segment_at::<K, C>(strand, p, f, last, Same::<K, C>) {
             Ok(segment) => {
-                packer.put::<K, C>(&segment.message);
+                packer.put::<K, C>(&segment.message, whole);
                 sheet.add(Verdict::Read(segment.edit));
                 (p, f) = (segment.end, Some(segment.f));
             }
             Err(step) => {
-                packer.put::<K, C>(&[0; C]);
+                packer.put::<K, C>(&[0; C], whole);
                 sheet.add(Verdict::Lost { step });
                 if last {
                     break;
@@ -1153,21 +1226,97 @@ fn read_all<const K: usize, const C: usize>(
         }
     }
     for _ in i..l {
-        packer.put::<K, C>(&[0; C]);
+        packer.put::<K, C>(&[0; C], whole);
         sheet.add(Verdict::NoStart);
     }
     sheet
 }
 
+/// A reading of segments that have lengths of their own, before one of them.
+struct Walk<'a> {
+    packer: Packer<'a>,
+    sheet: Sheet,
+    p: usize,
+    f: Option<u8>,
+}
+
+/// Reads one segment, the last where there is no next one; hands back whether another has a start.
+#[inline(never)]
+fn walk_on<const K: usize, const C: usize>(
+    strand: &Strand,
+    next: Option<&u16>,
+    walk: &mut Walk,
+) -> bool {
+    let (p, f) = (walk.p, walk.f);
+    let whole = K % 4 == 0 && walk.packer.count == 0;
+    let read = match clean_segment_at::<K, C>(strand, p, f, next.is_none()) {
+        Some(segment) => Ok(segment),
+        None => {
+            let other = Other(next.copied().unwrap_or(0));
+            segment_at::<K, C>(strand, p, f, next.is_none(), other)
+        }
+    };
+    match read {
+        Ok(segment) => {
+            walk.packer.put::<K, C>(&segment.message, whole);
+            walk.sheet.add(Verdict::Read(segment.edit));
+            (walk.p, walk.f) = (segment.end, Some(segment.f));
+            true
+        }
+        Err(step) => {
+            walk.packer.put::<K, C>(&[0; C], whole);
+            walk.sheet.add(Verdict::Lost { step });
+            // Step 10.
+            let own = p + Shape::<K, C>::BODY + if f.is_some() { 2 } else { 0 };
+            let start = next.and_then(|&k| by_k!(k, scan(strand, p, own), None));
+            if let Some(start) = start {
+                (walk.p, walk.f) = (start, Some(strand.symbols[start - 1]));
+            }
+            start.is_some()
+        }
+    }
+}
+
+/// A segment without a start.
+#[inline(never)]
+fn no_start<const K: usize, const C: usize>(walk: &mut Walk) {
+    let whole = K % 4 == 0 && walk.packer.count == 0;
+    walk.packer.put::<K, C>(&[0; C], whole);
+    walk.sheet.add(Verdict::NoStart);
+}
+
+/// Reads segments that have lengths of their own.
+#[inline(never)]
+fn read_mixed(lengths: &[u16], strand: &Strand, message: &mut [u8]) -> Sheet {
+    let mut walk = Walk {
+        packer: Packer::new(message),
+        sheet: Sheet::new(),
+        p: 0,
+        f: None,
+    };
+    let mut rest = lengths;
+    while let Some((&k, more)) = rest.split_first() {
+        rest = more;
+        if !by_k!(k, walk_on(strand, rest.first(), &mut walk), false) {
+            break;
+        }
+    }
+    for &k in rest {
+        by_k!(k, no_start(&mut walk), ());
+    }
+    walk.sheet
+}
+
 /// Reads a strand; hands back the counts of clean, corrected and lost segments.
 pub fn read(
-    k: u32,
+    lengths: &[u16],
     b: u32,
     letters: &[u8],
     message: &mut [u8],
     sheet: &mut [u8],
 ) -> Result<[u32; 3], Refused> {
-    let l = segments_of(k, b, None)?;
+    let equal = equal_length(lengths, b, None)?;
+    let l = lengths.len();
     if letters.len() > 2048 {
         return refuse(4);
     }
@@ -1182,7 +1331,10 @@ pub fn read(
         length: letters.len(),
     };
     strand.fill(letters)?;
-    let read = by_k!(k, read_all(l, &strand, message));
+    let read = match equal {
+        Some(k) => by_k!(k, read_equal(l, &strand, message), return refuse(1)),
+        None => read_mixed(lengths, &strand, message),
+    };
     let mut marks = read.marks << (128 - 2 * l);
     for byte in sheet {
         *byte = (marks >> 120) as u8;

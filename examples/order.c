@@ -1,45 +1,62 @@
-/* Orders a strand of 32 bytes in segments of 16 symbols, damages a letter, and reads the message back. */
+/* Orders a strand of 32 bytes in segments that are short at its ends, damages two letters, and reads the message back by the label. */
 #include "dnalm.h"
 #include <stdio.h>
 #include <string.h>
 
-enum { K = 16, B = 32, DAMAGED = 100 };
+enum { B = 32, SEGMENTS = 8 };
 
+static const uint16_t LENGTHS[SEGMENTS] = {8, 8, 16, 32, 32, 16, 8, 8};
 static const char MESSAGE[] = "Barley seeds, lot 17, drawer 204";
+
+static int refused(uint32_t refusal)
+{
+    if (refusal != DNALM_TAKEN) {
+        printf("refused %u\n", (unsigned)refusal);
+    }
+    return refusal != DNALM_TAKEN;
+}
 
 int main(void)
 {
-    uint8_t label[DNALM_LABEL_BYTES];
+    uint8_t label[DNALM_MOST_LABEL];
     uint8_t strand[DNALM_MOST_WRITTEN];
-    uint8_t message[B];
+    uint8_t message[DNALM_MOST_BYTES];
     uint8_t sheet[DNALM_MOST_SHEET];
 
-    if (dnalm_write_label(K, B, label, sizeof label) != DNALM_TAKEN) {
+    dnalm_written labelled = dnalm_write_label(LENGTHS, SEGMENTS, B, label, sizeof label);
+    if (refused(labelled.refusal)) {
         return 1;
     }
-    printf("label %02X%02X%02X%02X\n", label[0], label[1], label[2], label[3]);
+    printf("label ");
+    for (size_t i = 0; i < labelled.length; i++) {
+        printf("%02X", label[i]);
+    }
+    printf("\n");
 
-    dnalm_written written = dnalm_write(K, B, (const uint8_t *)MESSAGE, B, strand, sizeof strand);
-    if (written.refusal != DNALM_TAKEN) {
-        printf("refused %u\n", (unsigned)written.refusal);
+    dnalm_written written = dnalm_write(LENGTHS, SEGMENTS, B, (const uint8_t *)MESSAGE, B, strand, sizeof strand);
+    if (refused(written.refusal)) {
         return 1;
     }
-    printf("written %u letters\n", (unsigned)written.letters);
+    printf("written %u letters\n", (unsigned)written.length);
 
-    strand[DAMAGED] = strand[DAMAGED] == 'A' ? 'T' : 'A';
+    strand[2] = strand[2] == 'A' ? 'T' : 'A';
+    strand[100] = strand[100] == 'A' ? 'T' : 'A';
 
-    dnalm_counts counts = dnalm_read(K, B, strand, written.letters, message, sizeof message, sheet, sizeof sheet);
-    if (counts.refusal != DNALM_TAKEN) {
-        printf("refused %u\n", (unsigned)counts.refusal);
+    dnalm_order order = dnalm_read_label(label, labelled.length);
+    if (refused(order.refusal)) {
+        return 1;
+    }
+    dnalm_counts counts = dnalm_read(order.lengths, order.count, order.b, strand, written.length, message, sizeof message, sheet, sizeof sheet);
+    if (refused(counts.refusal)) {
         return 1;
     }
     printf("message %s\n", memcmp(message, MESSAGE, B) == 0 ? "equal" : "differs");
     printf("clean %u corrected %u lost %u\n", (unsigned)counts.clean, (unsigned)counts.corrected, (unsigned)counts.lost);
 
-    for (uint32_t i = 0; i < 4 * B / K; i++) {
+    for (uint32_t i = 0; i < order.count; i++) {
         int mark = sheet[i / 4] >> (6 - 2 * (i % 4)) & 3;
         if (mark != DNALM_CLEAN) {
-            dnalm_piece_at piece = dnalm_piece(K, B, strand, written.letters, i + 1);
+            dnalm_piece_at piece = dnalm_piece(order.lengths, order.count, order.b, strand, written.length, i + 1);
             printf("segment %u at %u: %.*s\n", (unsigned)(i + 1), (unsigned)piece.start, (int)piece.length, (const char *)strand + piece.start);
         }
     }

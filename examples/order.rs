@@ -1,11 +1,11 @@
-// Orders a strand of 32 bytes in segments of 16 symbols, damages a letter, and reads the message back.
+// Orders a strand of 32 bytes in segments that are short at its ends, damages two letters, and reads the message back by the label.
 use std::process::exit;
 
 #[repr(C)]
 struct Written {
     refusal: u32,
     place: usize,
-    letters: usize,
+    length: usize,
 }
 
 #[repr(C)]
@@ -25,10 +25,19 @@ struct Piece {
     length: usize,
 }
 
+#[repr(C)]
+struct Order {
+    refusal: u32,
+    b: u32,
+    count: usize,
+    lengths: [u16; 64],
+}
+
 #[link(name = "dnalm", kind = "static")]
 extern "C" {
     fn dnalm_write(
-        k: u32,
+        lengths: *const u16,
+        lengths_count: usize,
         b: u32,
         message: *const u8,
         message_length: usize,
@@ -36,7 +45,8 @@ extern "C" {
         out_length: usize,
     ) -> Written;
     fn dnalm_read(
-        k: u32,
+        lengths: *const u16,
+        lengths_count: usize,
         b: u32,
         letters: *const u8,
         letters_length: usize,
@@ -46,21 +56,30 @@ extern "C" {
         sheet_length: usize,
     ) -> Counts;
     fn dnalm_piece(
-        k: u32,
+        lengths: *const u16,
+        lengths_count: usize,
         b: u32,
         letters: *const u8,
         letters_length: usize,
         segment: u32,
     ) -> Piece;
-    fn dnalm_write_label(k: u32, b: u32, out: *mut u8, out_length: usize) -> u32;
+    fn dnalm_write_label(
+        lengths: *const u16,
+        lengths_count: usize,
+        b: u32,
+        out: *mut u8,
+        out_length: usize,
+    ) -> Written;
+    fn dnalm_read_label(bytes: *const u8, bytes_length: usize) -> Order;
 }
 
 // The calls over slices: a slice is always good for its length, and two of them never overlap where one is written to.
 
-fn write(k: u32, b: u32, message: &[u8], out: &mut [u8]) -> Written {
+fn write(lengths: &[u16], b: u32, message: &[u8], out: &mut [u8]) -> Written {
     unsafe {
         dnalm_write(
-            k,
+            lengths.as_ptr(),
+            lengths.len(),
             b,
             message.as_ptr(),
             message.len(),
@@ -70,10 +89,11 @@ fn write(k: u32, b: u32, message: &[u8], out: &mut [u8]) -> Written {
     }
 }
 
-fn read(k: u32, b: u32, letters: &[u8], message: &mut [u8], sheet: &mut [u8]) -> Counts {
+fn read(lengths: &[u16], b: u32, letters: &[u8], message: &mut [u8], sheet: &mut [u8]) -> Counts {
     unsafe {
         dnalm_read(
-            k,
+            lengths.as_ptr(),
+            lengths.len(),
             b,
             letters.as_ptr(),
             letters.len(),
@@ -85,12 +105,33 @@ fn read(k: u32, b: u32, letters: &[u8], message: &mut [u8], sheet: &mut [u8]) ->
     }
 }
 
-fn piece(k: u32, b: u32, letters: &[u8], segment: u32) -> Piece {
-    unsafe { dnalm_piece(k, b, letters.as_ptr(), letters.len(), segment) }
+fn piece(lengths: &[u16], b: u32, letters: &[u8], segment: u32) -> Piece {
+    unsafe {
+        dnalm_piece(
+            lengths.as_ptr(),
+            lengths.len(),
+            b,
+            letters.as_ptr(),
+            letters.len(),
+            segment,
+        )
+    }
 }
 
-fn write_label(k: u32, b: u32, out: &mut [u8]) -> u32 {
-    unsafe { dnalm_write_label(k, b, out.as_mut_ptr(), out.len()) }
+fn write_label(lengths: &[u16], b: u32, out: &mut [u8]) -> Written {
+    unsafe {
+        dnalm_write_label(
+            lengths.as_ptr(),
+            lengths.len(),
+            b,
+            out.as_mut_ptr(),
+            out.len(),
+        )
+    }
+}
+
+fn read_label(bytes: &[u8]) -> Order {
+    unsafe { dnalm_read_label(bytes.as_ptr(), bytes.len()) }
 }
 
 // Ends the program where a call is refused.
@@ -101,34 +142,38 @@ fn taken(refusal: u32, place: usize) {
     }
 }
 
-const K: u32 = 16;
+const LENGTHS: [u16; 8] = [8, 8, 16, 32, 32, 16, 8, 8];
 const B: u32 = 32;
-const DAMAGED: usize = 100;
 const MESSAGE: &[u8; B as usize] = b"Barley seeds, lot 17, drawer 204";
 
 fn main() {
-    let mut label = [0; 4];
-    taken(write_label(K, B, &mut label), 0);
-    println!(
-        "label {:02X}{:02X}{:02X}{:02X}",
-        label[0], label[1], label[2], label[3]
-    );
+    let mut label = [0; 59];
+    let labelled = write_label(&LENGTHS, B, &mut label);
+    taken(labelled.refusal, labelled.place);
+    let label = &label[..labelled.length];
+    let digits: String = label.iter().map(|byte| format!("{byte:02X}")).collect();
+    println!("label {digits}");
 
-    let mut strand = [0; 1150];
-    let written = write(K, B, MESSAGE, &mut strand);
+    let mut strand = [0; 1198];
+    let written = write(&LENGTHS, B, MESSAGE, &mut strand);
     taken(written.refusal, written.place);
-    println!("written {} letters", written.letters);
+    println!("written {} letters", written.length);
 
-    strand[DAMAGED] = if strand[DAMAGED] == b'A' { b'T' } else { b'A' };
-    let letters = &strand[..written.letters];
+    for damaged in [2, 100] {
+        strand[damaged] = if strand[damaged] == b'A' { b'T' } else { b'A' };
+    }
+    let letters = &strand[..written.length];
 
-    let mut message = [0; B as usize];
+    let order = read_label(label);
+    taken(order.refusal, 0);
+    let lengths = &order.lengths[..order.count];
+    let mut message = [0; 128];
     let mut sheet = [0; 16];
-    let counts = read(K, B, letters, &mut message, &mut sheet);
+    let counts = read(lengths, order.b, letters, &mut message, &mut sheet);
     taken(counts.refusal, counts.place);
     println!(
         "message {}",
-        if message == *MESSAGE {
+        if message[..order.b as usize] == *MESSAGE {
             "equal"
         } else {
             "differs"
@@ -139,10 +184,10 @@ fn main() {
         counts.clean, counts.corrected, counts.lost
     );
 
-    for i in 0..4 * B / K {
-        let mark = sheet[i as usize / 4] >> (6 - 2 * (i % 4)) & 3;
+    for i in 0..lengths.len() {
+        let mark = sheet[i / 4] >> (6 - 2 * (i % 4)) & 3;
         if mark != 0 {
-            let at = piece(K, B, letters, i + 1);
+            let at = piece(lengths, order.b, letters, i as u32 + 1);
             taken(at.refusal, at.place);
             let text = String::from_utf8_lossy(&letters[at.start..at.start + at.length]);
             println!("segment {} at {}: {text}", i + 1, at.start);

@@ -1,9 +1,12 @@
 /*
  * DNA-LM strands: writing, reading, the pieces of segments, labels and tallies.
  *
- * A message of B bytes is written in the letters A, T, C and G, as l = 4B / k segments of k symbols.
- * A strand with at most one letter changed, lost or added in each segment is read back whole, if each
- * segment that is hit in separator or syndrome is last or has an untouched one directly after it.
+ * A message of B bytes is 4B symbols. It is written in the letters A, T, C and G, as l segments.
+ * A layout lists their lengths, the symbols of the message in each segment from the first to the last:
+ * 1 to 64 lengths, each 2 to 64, that sum to 4B. They may be equal, or short at the ends and long between.
+ * On every layout a strand with at most one letter changed, lost or added in each segment is read back
+ * whole, if each segment that is hit in separator or syndrome is last or has an untouched one directly
+ * after it.
  *
  *     bash tools/library               proves the calls and writes target/lib/libdnalm.a (x86-64 Linux)
  *     cc -std=c99 -I include program.c target/lib/libdnalm.a
@@ -11,9 +14,10 @@
  * Every call answers for all numbers, lengths and contents. It allocates nothing and keeps nothing
  * between calls, so several threads may call at once.
  *
- * A buffer is a pointer and a number of bytes, and the pointer has to be good for that many. Where the
- * number is 0, nothing is read or written through the pointer, and it may be any, NULL included.
- * A buffer that is written to overlaps no other of the same call; it need not hold anything before.
+ * A buffer is a pointer and a number of bytes, a layout a pointer and a number of lengths, and the pointer
+ * has to be good for that many. Where the number is 0, nothing is read or written through the pointer, and
+ * it may be any, NULL included. A layout is only read. A buffer that is written to overlaps no other of the
+ * same call, nor the layout; it need not hold anything before.
  *
  * In an answer refusal is 0 where the call is taken, and else the number of the refusal: of several the
  * first in the order that is told for the call. place is 0, or, where refusal is 6, the place of the
@@ -32,27 +36,27 @@ extern "C" {
 
 /* The limits, and the sizes that are enough for every order within them. */
 enum {
-    DNALM_LEAST_LENGTH = 2,     /* k, the symbols of a segment's message */
+    DNALM_LEAST_LENGTH = 2,     /* each length of a layout */
     DNALM_MOST_LENGTH = 64,
     DNALM_MOST_BYTES = 128,     /* B, the bytes of a strand's message; at least 1 */
-    DNALM_MOST_SEGMENTS = 64,   /* l */
+    DNALM_MOST_SEGMENTS = 64,   /* l, the number of lengths; at least 1 */
     DNALM_MOST_LETTERS = 2048,  /* letters of a received strand */
-    DNALM_MOST_WRITTEN = 1150,  /* letters of a written strand */
+    DNALM_MOST_WRITTEN = 1198,  /* letters of a written strand; with a letter added in each segment 1,262 */
     DNALM_MOST_SHEET = 16,      /* bytes of a sheet */
-    DNALM_LABEL_BYTES = 4
+    DNALM_MOST_LABEL = 59       /* bytes of a label */
 };
 
 /* The refusals by their numbers. */
 enum {
     DNALM_TAKEN = 0,
-    DNALM_SEGMENT_LENGTH = 1,   /* k is not 2 to 64 */
+    DNALM_SEGMENT_LENGTH = 1,   /* a length is not 2 to 64, the first or any other */
     DNALM_MESSAGE_SIZE = 2,     /* B is not 1 to 128, or the message to write has not B bytes */
-    DNALM_CUT = 3,              /* 4B is not a multiple of k, or makes more than 64 segments */
+    DNALM_CUT = 3,              /* there are no lengths or more than 64, or their sum is not 4B */
     DNALM_OVERLONG = 4,         /* there are more than 2,048 letters */
     DNALM_SHORT_BUFFER = 5,     /* a buffer or a label has too few bytes */
     DNALM_FOREIGN_LETTER = 6,   /* a byte is none of A, T, C and G */
     DNALM_TALLY_FULL = 7,       /* a count would pass 4,294,967,295 */
-    DNALM_LABEL = 8,            /* the edition is not 1, or a spare bit is set */
+    DNALM_LABEL = 8,            /* the edition is not 1 or 2, a spare bit is set, or 1 to 64 equal lengths are in edition 2 */
     DNALM_NO_SUCH_SEGMENT = 9   /* the segment's number is not 1 to l */
 };
 
@@ -67,7 +71,7 @@ enum {
 typedef struct dnalm_written {
     uint32_t refusal;
     size_t place;               /* always 0 */
-    size_t letters;             /* the letters of the strand */
+    size_t length;              /* the bytes that are written: the letters of a strand, the bytes of a label */
 } dnalm_written;
 
 /* What a reading answers: how many segments have each mark, together l. */
@@ -87,11 +91,12 @@ typedef struct dnalm_piece_at {
     size_t length;
 } dnalm_piece_at;
 
-/* What a label says. */
+/* What a label says: B, and the layout of the first count lengths. */
 typedef struct dnalm_order {
     uint32_t refusal;
-    uint32_t k;
     uint32_t b;
+    size_t count;
+    uint16_t lengths[DNALM_MOST_SEGMENTS];  /* zeros behind the first count */
 } dnalm_order;
 
 /* How many strands were read, and their segments by mark. */
@@ -112,18 +117,19 @@ typedef struct dnalm_tallied {
 } dnalm_tallied;
 
 /*
- * Writes the strand of a message of B = b bytes, in segments of k symbols, to the front of out.
- * It has l * (k + t + 6) - 2 letters, where t is the number of bits of 2k - 1.
+ * Writes the strand of a message of B = b bytes, in segments of the lengths given, to the front of out.
+ * A segment of length k has k + t + 6 letters, where t is the number of bits of 2k - 1; the first has two
+ * letters fewer.
  *
  * Refused, in this order: 1, 2, 3, 5 where out has fewer bytes than the strand has letters.
  * The bytes of out behind the strand are untouched.
  */
-dnalm_written dnalm_write(uint32_t k, uint32_t b,
+dnalm_written dnalm_write(const uint16_t *lengths, size_t lengths_count, uint32_t b,
                           const uint8_t *message, size_t message_length,
                           uint8_t *out, size_t out_length);
 
 /*
- * Reads the letters that were received of a strand written for k and B = b.
+ * Reads the letters that were received of a strand written for these lengths and B = b.
  * The B bytes of the message go to the front of message, with zeros for the symbols of a lost segment.
  * The sheet goes to the front of sheet, (l + 3) / 4 bytes: two bits for each segment, the first segment
  * in the highest bits of the first byte, 0 clean, 1 corrected, 2 lost; the bits that are left are 0.
@@ -131,7 +137,7 @@ dnalm_written dnalm_write(uint32_t k, uint32_t b,
  * Refused, in this order: 1, 2, 3, 4, 5 where message has fewer than B bytes or sheet too few, 6.
  * The bytes behind the message and behind the sheet are untouched.
  */
-dnalm_counts dnalm_read(uint32_t k, uint32_t b,
+dnalm_counts dnalm_read(const uint16_t *lengths, size_t lengths_count, uint32_t b,
                         const uint8_t *letters, size_t letters_length,
                         uint8_t *message, size_t message_length,
                         uint8_t *sheet, size_t sheet_length);
@@ -143,23 +149,30 @@ dnalm_counts dnalm_read(uint32_t k, uint32_t b,
  *
  * Refused, in this order: 1, 2, 3, 4, 6, 9. It writes to nothing.
  */
-dnalm_piece_at dnalm_piece(uint32_t k, uint32_t b,
+dnalm_piece_at dnalm_piece(const uint16_t *lengths, size_t lengths_count, uint32_t b,
                            const uint8_t *letters, size_t letters_length,
                            uint32_t segment);
 
 /*
- * Writes the label of k and B = b to the front of out: four bytes, the most significant first, that hold
- * edition 1 in 4 bits, k in 7, B in 8, and 13 zero bits. Answers 0 or the refusal.
+ * Writes the label of a layout and B = b to the front of out, the most significant bit first.
+ * Equal lengths, of which one alone is equal, have edition 1: the edition in 4 bits, the length in 7, B in
+ * 8, and 13 spare zero bits; 4 bytes. All others have edition 2: the edition in 4 bits, B in 8, the number of
+ * lengths in 7, each length in 7, and spare zero bits to the end of the byte; (26 + 7 * lengths_count) / 8
+ * bytes.
  *
- * Refused, in this order: 1, 2, 3, 5 where out has fewer than four bytes.
+ * Refused, in this order: 1, 2, 3, 5 where out has fewer bytes than the label.
  * The bytes of out behind the label are untouched.
  */
-uint32_t dnalm_write_label(uint32_t k, uint32_t b, uint8_t *out, size_t out_length);
+dnalm_written dnalm_write_label(const uint16_t *lengths, size_t lengths_count, uint32_t b,
+                                uint8_t *out, size_t out_length);
 
 /*
- * Reads a label. Bytes behind the first four are not read.
+ * Reads a label. The bytes it needs are told by itself: by edition 2 those of its own number of lengths,
+ * 0 to 127, as above; by edition 1, and by one that is not known, four. Bytes behind these are not read.
  *
- * Refused, in this order: 5 where there are fewer than four bytes, 8, 1, 2, 3. It writes to nothing.
+ * Refused, in this order: 5 where there are fewer bytes than it needs, or too few to tell them: none, or by
+ * edition 2 fewer than three; 8, by edition 2 also for 1 to 64 equal lengths, whatever these are; 1; 2; 3, by
+ * edition 1 where 4B is not a multiple of the length, or makes more than 64 segments. It writes to nothing.
  */
 dnalm_order dnalm_read_label(const uint8_t *bytes, size_t bytes_length);
 

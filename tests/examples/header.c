@@ -14,94 +14,191 @@ static void expect_at(int holds, int line)
 
 #define EXPECT(holds) expect_at((holds), __LINE__)
 
-/* Every order of small numbers: the sizes are enough, and each most is met. */
-static void sizes(void)
+static void fill(uint16_t *lengths, size_t count, uint32_t length)
 {
-    uint8_t bytes[DNALM_MOST_BYTES + 1];
+    for (size_t i = 0; i < count; i++) {
+        lengths[i] = (uint16_t)length;
+    }
+}
+
+/* A layout that is taken: strand and label are written in the sizes told, and read back. Answers the letters. */
+static size_t taken(const uint16_t *lengths, size_t count, uint32_t b)
+{
+    uint8_t bytes[DNALM_MOST_BYTES];
     uint8_t strand[DNALM_MOST_WRITTEN];
     uint8_t message[DNALM_MOST_BYTES];
     uint8_t sheet[DNALM_MOST_SHEET];
-    uint8_t label[DNALM_LABEL_BYTES];
+    uint8_t label[DNALM_MOST_LABEL];
+    memset(bytes, 0x1B, sizeof bytes);
+    dnalm_written w = dnalm_write(lengths, count, b, bytes, b, strand, sizeof strand);
+    EXPECT(w.refusal == DNALM_TAKEN && w.place == 0);
+    size_t letters = 0;
+    int equal = 1;
+    for (size_t i = 0; i < count; i++) {
+        uint32_t t = 0;
+        while ((2u * lengths[i] - 1) >> t != 0) {
+            t++;
+        }
+        letters += lengths[i] + t + 6;
+        equal = equal && lengths[i] == lengths[0];
+    }
+    EXPECT(w.length == letters - 2);
+    dnalm_written l = dnalm_write_label(lengths, count, b, label, sizeof label);
+    EXPECT(l.refusal == DNALM_TAKEN && l.place == 0);
+    EXPECT(l.length == (equal ? 4 : (26 + 7 * count) / 8));
+    EXPECT(label[0] >> 4 == (equal ? 1 : 2));
+    dnalm_order o = dnalm_read_label(label, l.length);
+    EXPECT(o.refusal == DNALM_TAKEN && o.b == b && o.count == count);
+    for (size_t i = 0; i < DNALM_MOST_SEGMENTS; i++) {
+        EXPECT(o.lengths[i] == (i < count ? lengths[i] : 0));
+    }
+    dnalm_counts c = dnalm_read(o.lengths, o.count, o.b, strand, w.length, message, sizeof message, sheet, sizeof sheet);
+    EXPECT(c.refusal == DNALM_TAKEN && c.clean == count && c.corrected == 0 && c.lost == 0);
+    EXPECT(memcmp(message, bytes, b) == 0);
+    EXPECT(dnalm_write(lengths, count, b, bytes, b, strand, w.length - 1).refusal == DNALM_SHORT_BUFFER);
+    EXPECT(dnalm_write_label(lengths, count, b, label, l.length - 1).refusal == DNALM_SHORT_BUFFER);
+    EXPECT(dnalm_read_label(label, l.length - 1).refusal == DNALM_SHORT_BUFFER);
+    return w.length;
+}
+
+/* Every order of small numbers in equal lengths: the first refusal, and the sizes are enough. */
+static void sizes(void)
+{
+    static uint16_t lengths[4 * (DNALM_MOST_BYTES + 1)];
+    uint8_t bytes[DNALM_MOST_BYTES + 1];
+    uint8_t strand[DNALM_MOST_WRITTEN];
+    uint8_t label[DNALM_MOST_LABEL];
     size_t most = 0;
-    uint32_t segments = 0;
+    size_t segments = 0;
     memset(bytes, 0x1B, sizeof bytes);
     for (uint32_t k = 0; k <= DNALM_MOST_LENGTH + 1; k++) {
         for (uint32_t b = 0; b <= DNALM_MOST_BYTES + 1; b++) {
-            dnalm_written w = dnalm_write(k, b, bytes, b, strand, sizeof strand);
-            uint32_t l = dnalm_write_label(k, b, label, sizeof label);
-            EXPECT(w.refusal == l);
-            EXPECT(w.place == 0);
+            size_t count = k == 0 || 4 * b < k ? 1 : 4 * b / k;
+            fill(lengths, count, k);
+            dnalm_written w = dnalm_write(lengths, count, b, bytes, b, strand, sizeof strand);
+            dnalm_written l = dnalm_write_label(lengths, count, b, label, sizeof label);
+            EXPECT(w.refusal == l.refusal);
             if (k < DNALM_LEAST_LENGTH || k > DNALM_MOST_LENGTH) {
-                EXPECT(l == DNALM_SEGMENT_LENGTH);
+                EXPECT(l.refusal == DNALM_SEGMENT_LENGTH);
             } else if (b < 1 || b > DNALM_MOST_BYTES) {
-                EXPECT(l == DNALM_MESSAGE_SIZE);
-            } else if (4 * b % k != 0 || 4 * b / k > DNALM_MOST_SEGMENTS) {
-                EXPECT(l == DNALM_CUT);
+                EXPECT(l.refusal == DNALM_MESSAGE_SIZE);
+            } else if (count * k != 4 * b || count > DNALM_MOST_SEGMENTS) {
+                EXPECT(l.refusal == DNALM_CUT);
             } else {
-                EXPECT(l == DNALM_TAKEN);
-            }
-            if (l != DNALM_TAKEN) {
-                EXPECT(w.letters == 0);
+                size_t letters = taken(lengths, count, b);
+                most = letters > most ? letters : most;
+                segments = count > segments ? count : segments;
                 continue;
             }
-            dnalm_order o = dnalm_read_label(label, sizeof label);
-            EXPECT(o.refusal == DNALM_TAKEN && o.k == k && o.b == b);
-            dnalm_counts c = dnalm_read(k, b, strand, w.letters, message, sizeof message, sheet, sizeof sheet);
-            EXPECT(c.refusal == DNALM_TAKEN && c.clean == 4 * b / k && c.corrected == 0 && c.lost == 0);
-            EXPECT(memcmp(message, bytes, b) == 0);
-            EXPECT(dnalm_write(k, b, bytes, b, strand, w.letters - 1).refusal == DNALM_SHORT_BUFFER);
-            most = w.letters > most ? w.letters : most;
-            segments = c.clean > segments ? c.clean : segments;
+            EXPECT(w.place == 0 && w.length == 0 && l.place == 0 && l.length == 0);
         }
     }
-    EXPECT(most == DNALM_MOST_WRITTEN);
+    EXPECT(most == 1150);
     EXPECT(segments == DNALM_MOST_SEGMENTS);
     EXPECT((segments + 3) / 4 == DNALM_MOST_SHEET);
 }
 
-/* An empty buffer may be NULL. */
+/* Lengths of their own for each segment: each most is met, and what is refused of them. */
+static void mixed(void)
+{
+    static const uint16_t ends[12] = {8, 8, 16, 16, 32, 64, 64, 32, 16, 16, 8, 8};
+    uint16_t lengths[DNALM_MOST_SEGMENTS + 1];
+    uint8_t bytes[DNALM_MOST_BYTES];
+    uint8_t out[DNALM_MOST_WRITTEN];
+    EXPECT(taken(ends, 12, 72) == 420);
+    fill(lengths, 48, 9);
+    fill(lengths + 48, 17, 5);
+    EXPECT(taken(lengths, 64, 128) == DNALM_MOST_WRITTEN);
+    EXPECT(dnalm_write_label(lengths, 64, 128, out, sizeof out).length == DNALM_MOST_LABEL);
+    memset(bytes, 0x1B, sizeof bytes);
+    EXPECT(dnalm_write(lengths, 63, 128, bytes, 128, out, sizeof out).refusal == DNALM_CUT);
+    EXPECT(dnalm_write(lengths, 65, 128, bytes, 128, out, sizeof out).refusal == DNALM_CUT);
+    lengths[64] = 65;
+    EXPECT(dnalm_write(lengths, 65, 128, bytes, 128, out, sizeof out).refusal == DNALM_SEGMENT_LENGTH);
+    EXPECT(dnalm_write(lengths, 65, 0, NULL, 0, NULL, 0).refusal == DNALM_SEGMENT_LENGTH);
+    EXPECT(dnalm_write(lengths, 64, 0, NULL, 0, NULL, 0).refusal == DNALM_MESSAGE_SIZE);
+}
+
+/* An empty buffer, or a layout of no lengths, may be NULL. */
 static void empty(void)
 {
+    static const uint16_t two[2] = {2, 2};
     uint8_t bytes[1] = {0x1B};
     uint8_t message[2] = {7, 7};
     uint8_t sheet[2] = {7, 7};
-    EXPECT(dnalm_write(2, 0, NULL, 0, NULL, 0).refusal == DNALM_MESSAGE_SIZE);
-    EXPECT(dnalm_write(2, 1, NULL, 0, NULL, 0).refusal == DNALM_MESSAGE_SIZE);
-    EXPECT(dnalm_write(2, 1, bytes, 1, NULL, 0).refusal == DNALM_SHORT_BUFFER);
-    EXPECT(dnalm_read(2, 1, NULL, 0, NULL, 0, NULL, 0).refusal == DNALM_SHORT_BUFFER);
-    EXPECT(dnalm_read(2, 1, NULL, 0, message, 1, NULL, 0).refusal == DNALM_SHORT_BUFFER);
-    EXPECT(dnalm_read(2, 1, NULL, 0, NULL, 0, sheet, 1).refusal == DNALM_SHORT_BUFFER);
+    EXPECT(dnalm_write(two, 2, 0, NULL, 0, NULL, 0).refusal == DNALM_MESSAGE_SIZE);
+    EXPECT(dnalm_write(two, 2, 1, NULL, 0, NULL, 0).refusal == DNALM_MESSAGE_SIZE);
+    EXPECT(dnalm_write(two, 2, 1, bytes, 1, NULL, 0).refusal == DNALM_SHORT_BUFFER);
+    EXPECT(dnalm_read(two, 2, 1, NULL, 0, NULL, 0, NULL, 0).refusal == DNALM_SHORT_BUFFER);
+    EXPECT(dnalm_read(two, 2, 1, NULL, 0, message, 1, NULL, 0).refusal == DNALM_SHORT_BUFFER);
+    EXPECT(dnalm_read(two, 2, 1, NULL, 0, NULL, 0, sheet, 1).refusal == DNALM_SHORT_BUFFER);
     EXPECT(message[0] == 7 && sheet[0] == 7);
-    dnalm_counts c = dnalm_read(2, 1, NULL, 0, message, 2, sheet, 2);
+    dnalm_counts c = dnalm_read(two, 2, 1, NULL, 0, message, 2, sheet, 2);
     EXPECT(c.refusal == DNALM_TAKEN && c.clean == 0 && c.corrected == 0 && c.lost == 2);
     EXPECT(message[0] == 0 && message[1] == 7 && sheet[0] == 0xA0 && sheet[1] == 7);
-    dnalm_piece_at p = dnalm_piece(2, 1, NULL, 0, 2);
+    dnalm_piece_at p = dnalm_piece(two, 2, 1, NULL, 0, 2);
     EXPECT(p.refusal == DNALM_TAKEN && p.start == 0 && p.length == 0);
-    EXPECT(dnalm_piece(2, 1, NULL, 0, 0).refusal == DNALM_NO_SUCH_SEGMENT);
-    EXPECT(dnalm_write_label(2, 1, NULL, 0) == DNALM_SHORT_BUFFER);
+    EXPECT(dnalm_piece(two, 2, 1, NULL, 0, 0).refusal == DNALM_NO_SUCH_SEGMENT);
+    EXPECT(dnalm_write_label(two, 2, 1, NULL, 0).refusal == DNALM_SHORT_BUFFER);
     EXPECT(dnalm_read_label(NULL, 0).refusal == DNALM_SHORT_BUFFER);
+    EXPECT(dnalm_write(NULL, 0, 1, bytes, 1, NULL, 0).refusal == DNALM_CUT);
+    EXPECT(dnalm_write(NULL, 0, 0, NULL, 0, NULL, 0).refusal == DNALM_MESSAGE_SIZE);
+    EXPECT(dnalm_read(NULL, 0, 1, NULL, 0, message, 2, sheet, 2).refusal == DNALM_CUT);
+    EXPECT(dnalm_piece(NULL, 0, 1, NULL, 0, 0).refusal == DNALM_CUT);
+    EXPECT(dnalm_write_label(NULL, 0, 1, NULL, 0).refusal == DNALM_CUT);
 }
 
-/* A foreign letter, letters too many, a label of no edition and a full tally. */
+/* A label of so many bytes is refused by this number, and the other numbers are 0. */
+static void no_label(const char *bytes, size_t length, uint32_t refusal)
+{
+    dnalm_order o = dnalm_read_label((const uint8_t *)bytes, length);
+    EXPECT(o.refusal == refusal && o.b == 0 && o.count == 0);
+    for (size_t i = 0; i < DNALM_MOST_SEGMENTS; i++) {
+        EXPECT(o.lengths[i] == 0);
+    }
+}
+
+/* Labels by what they need and what is refused of them; 20 20 40 83 00 are the lengths 2 and 6. */
+static void labels(void)
+{
+    dnalm_order o = dnalm_read_label((const uint8_t *)"\x20\x20\x40\x83\x00\xFF", 6);
+    EXPECT(o.refusal == DNALM_TAKEN && o.b == 2 && o.count == 2 && o.lengths[0] == 2 && o.lengths[1] == 6);
+    no_label("\x20\x20\x40\x83", 4, DNALM_SHORT_BUFFER);
+    no_label("\x20\x20", 2, DNALM_SHORT_BUFFER);
+    no_label("\x20\x2F\xE0\x83", 4, DNALM_SHORT_BUFFER);
+    no_label("\x30\x20\x40", 3, DNALM_SHORT_BUFFER);
+    no_label("\x30\x20\x40\x83", 4, DNALM_LABEL);
+    no_label("\x00\x40\x20\x00", 4, DNALM_LABEL);
+    no_label("\x10\x40\x20\x01", 4, DNALM_LABEL);
+    no_label("\x20\x20\x40\x83\x40", 5, DNALM_LABEL);
+    no_label("\x20\x20\x41\x02\x00", 5, DNALM_LABEL);
+    no_label("\x20\x20\x21\x00", 4, DNALM_LABEL);
+    no_label("\x20\x00\x40\x40\x80", 5, DNALM_LABEL);
+    no_label("\x20\x20\x40\x43\x80", 5, DNALM_SEGMENT_LENGTH);
+    no_label("\x20\x00\x40\x83\x00", 5, DNALM_MESSAGE_SIZE);
+    no_label("\x20\x30\x40\x83\x00", 5, DNALM_CUT);
+    no_label("\x20\x20\x00", 3, DNALM_CUT);
+    no_label("\x10\x60\x20\x00", 4, DNALM_CUT);
+}
+
+/* A foreign letter, letters too many and a full tally. */
 static void refused(void)
 {
+    static const uint16_t two[2] = {2, 2};
     static uint8_t many[DNALM_MOST_LETTERS + 1];
     uint8_t message[1] = {7};
     uint8_t sheet[1] = {7};
-    uint8_t label[DNALM_LABEL_BYTES] = {0x20, 0x40, 0x20, 0x00};
     const uint8_t *letters = (const uint8_t *)"ATTgGGTATTCGTAAAGN";
-    dnalm_counts c = dnalm_read(2, 1, letters, 18, message, 1, sheet, 1);
+    dnalm_counts c = dnalm_read(two, 2, 1, letters, 18, message, 1, sheet, 1);
     EXPECT(c.refusal == DNALM_FOREIGN_LETTER && c.place == 3);
     EXPECT(c.clean == 0 && c.corrected == 0 && c.lost == 0);
-    dnalm_piece_at p = dnalm_piece(2, 1, letters, 18, 1);
+    dnalm_piece_at p = dnalm_piece(two, 2, 1, letters, 18, 1);
     EXPECT(p.refusal == DNALM_FOREIGN_LETTER && p.place == 3 && p.start == 0 && p.length == 0);
-    c = dnalm_read(2, 1, many, sizeof many, message, 1, sheet, 1);
+    c = dnalm_read(two, 2, 1, many, sizeof many, message, 1, sheet, 1);
     EXPECT(c.refusal == DNALM_OVERLONG && c.place == 0);
     EXPECT(message[0] == 7 && sheet[0] == 7);
     memset(many, 'A', sizeof many);
-    EXPECT(dnalm_read(2, 1, many, DNALM_MOST_LETTERS, message, 1, sheet, 1).refusal == DNALM_TAKEN);
-    dnalm_order o = dnalm_read_label(label, sizeof label);
-    EXPECT(o.refusal == DNALM_LABEL && o.k == 0 && o.b == 0);
+    EXPECT(dnalm_read(two, 2, 1, many, DNALM_MOST_LETTERS, message, 1, sheet, 1).refusal == DNALM_TAKEN);
     dnalm_tally t = {5, 10, 4294967295u, 3};
     dnalm_tallied s = dnalm_add_to_tally(t, 2, 0, 1);
     EXPECT(s.refusal == DNALM_TAKEN && s.strands == 6 && s.clean == 12 && s.corrected == 4294967295u && s.lost == 4);
@@ -112,7 +209,9 @@ static void refused(void)
 int main(void)
 {
     sizes();
+    mixed();
     empty();
+    labels();
     refused();
     return 0;
 }

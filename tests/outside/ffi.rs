@@ -1,11 +1,11 @@
-//! The library's C names.
+//! The library's C names, and the calls over slices.
 
 #[repr(C)]
 #[derive(Clone, Copy, Debug, PartialEq, Eq)]
 pub struct Written {
     pub refusal: u32,
     pub place: usize,
-    pub letters: usize,
+    pub length: usize,
 }
 
 #[repr(C)]
@@ -31,8 +31,9 @@ pub struct Piece {
 #[derive(Clone, Copy, Debug, PartialEq, Eq)]
 pub struct Order {
     pub refusal: u32,
-    pub k: u32,
     pub b: u32,
+    pub count: usize,
+    pub lengths: [u16; 64],
 }
 
 #[repr(C)]
@@ -56,31 +57,105 @@ pub struct Tallied {
 
 extern "C" {
     pub fn dnalm_write(
-        k: u32,
+        lengths: *const u16,
+        lengths_count: usize,
         b: u32,
         message: *const u8,
-        message_len: usize,
+        message_length: usize,
         out: *mut u8,
-        out_len: usize,
+        out_length: usize,
     ) -> Written;
     pub fn dnalm_read(
-        k: u32,
+        lengths: *const u16,
+        lengths_count: usize,
         b: u32,
         letters: *const u8,
-        letters_len: usize,
+        letters_length: usize,
         message: *mut u8,
-        message_len: usize,
+        message_length: usize,
         sheet: *mut u8,
-        sheet_len: usize,
+        sheet_length: usize,
     ) -> Counts;
     pub fn dnalm_piece(
-        k: u32,
+        lengths: *const u16,
+        lengths_count: usize,
         b: u32,
         letters: *const u8,
-        letters_len: usize,
+        letters_length: usize,
         segment: u32,
     ) -> Piece;
-    pub fn dnalm_write_label(k: u32, b: u32, out: *mut u8, out_len: usize) -> u32;
-    pub fn dnalm_read_label(bytes: *const u8, bytes_len: usize) -> Order;
+    pub fn dnalm_write_label(
+        lengths: *const u16,
+        lengths_count: usize,
+        b: u32,
+        out: *mut u8,
+        out_length: usize,
+    ) -> Written;
+    pub fn dnalm_read_label(bytes: *const u8, bytes_length: usize) -> Order;
     pub fn dnalm_add_to_tally(t: Tally, clean: u32, corrected: u32, lost: u32) -> Tallied;
+}
+
+pub fn write(lengths: &[u16], b: u32, message: &[u8], out: &mut [u8]) -> Written {
+    unsafe {
+        dnalm_write(
+            lengths.as_ptr(),
+            lengths.len(),
+            b,
+            message.as_ptr(),
+            message.len(),
+            out.as_mut_ptr(),
+            out.len(),
+        )
+    }
+}
+
+pub fn read(
+    lengths: &[u16],
+    b: u32,
+    letters: &[u8],
+    message: &mut [u8],
+    sheet: &mut [u8],
+) -> Counts {
+    unsafe {
+        dnalm_read(
+            lengths.as_ptr(),
+            lengths.len(),
+            b,
+            letters.as_ptr(),
+            letters.len(),
+            message.as_mut_ptr(),
+            message.len(),
+            sheet.as_mut_ptr(),
+            sheet.len(),
+        )
+    }
+}
+
+pub fn piece(lengths: &[u16], b: u32, letters: &[u8], segment: u32) -> Piece {
+    unsafe {
+        dnalm_piece(
+            lengths.as_ptr(),
+            lengths.len(),
+            b,
+            letters.as_ptr(),
+            letters.len(),
+            segment,
+        )
+    }
+}
+
+pub fn write_label(lengths: &[u16], b: u32, out: &mut [u8]) -> Written {
+    unsafe {
+        dnalm_write_label(
+            lengths.as_ptr(),
+            lengths.len(),
+            b,
+            out.as_mut_ptr(),
+            out.len(),
+        )
+    }
+}
+
+pub fn read_label(bytes: &[u8]) -> Order {
+    unsafe { dnalm_read_label(bytes.as_ptr(), bytes.len()) }
 }

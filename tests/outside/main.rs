@@ -1,12 +1,13 @@
 //! Compares the library, called by its C names, with the oracle.
 
+#[allow(dead_code)]
 mod ffi;
 mod oracle;
-#[allow(dead_code)]
 mod strands;
 
 use ffi::{Counts, Order, Piece, Tallied, Tally, Written};
-use oracle::{Edit, Refused, Verdict};
+use oracle::{Edit, Refused, Segment, Verdict};
+use std::fmt::Debug;
 use std::process::exit;
 use std::sync::atomic::{AtomicU64, Ordering};
 use strands::{Damage, Rng};
@@ -34,27 +35,43 @@ fn watch() {
     }
 }
 
-/// A lent range between guard bytes, or in an allocation of its own.
-struct Lent {
-    all: Box<[u8]>,
+/// Bytes or lengths, as a disagreement tells them.
+trait Shown: Copy + PartialEq + From<u8> {
+    fn shown(all: &[Self]) -> String;
+}
+
+impl Shown for u8 {
+    fn shown(all: &[u8]) -> String {
+        hex(all)
+    }
+}
+
+impl Shown for u16 {
+    fn shown(all: &[u16]) -> String {
+        let all: Vec<String> = all.iter().map(u16::to_string).collect();
+        all.join(",")
+    }
+}
+
+/// A lent range between guards, or in an allocation of its own.
+struct Lent<T> {
+    all: Box<[T]>,
     from: usize,
     length: usize,
     dangling: bool,
 }
 
-impl Lent {
-    fn new(rng: &mut Rng, exact: bool, content: &[u8], after: &[u8]) -> Lent {
+impl<T: Shown> Lent<T> {
+    fn new(rng: &mut Rng, exact: bool, content: &[T], after: &[T]) -> Lent<T> {
         let dangling = content.is_empty() && rng.once_in(2);
         let mut all = Vec::new();
         let guard = if exact { 0 } else { GUARD };
-        if !exact {
-            all.extend(rng.bytes(GUARD));
-        }
+        all.extend((0..guard).map(|_| T::from(rng.next() as u8)));
         all.extend(content);
         if !exact {
             all.extend(&after[..after.len().min(GUARD)]);
             while all.len() < content.len() + 2 * GUARD {
-                all.push(rng.next() as u8);
+                all.push(T::from(rng.next() as u8));
             }
         }
         Lent {
@@ -65,26 +82,26 @@ impl Lent {
         }
     }
 
-    fn as_ptr(&self) -> *const u8 {
+    fn as_ptr(&self) -> *const T {
         if self.dangling {
             return std::ptr::NonNull::dangling().as_ptr();
         }
         self.all[self.from..].as_ptr()
     }
 
-    fn as_mut_ptr(&mut self) -> *mut u8 {
+    fn as_mut_ptr(&mut self) -> *mut T {
         if self.dangling {
             return std::ptr::NonNull::dangling().as_ptr();
         }
         self.all[self.from..].as_mut_ptr()
     }
 
-    fn content(&self) -> &[u8] {
+    fn content(&self) -> &[T] {
         &self.all[self.from..self.from + self.length]
     }
 
-    /// The same bytes with another content.
-    fn with(&self, content: &[u8]) -> Box<[u8]> {
+    /// The same range with another content.
+    fn with(&self, content: &[T]) -> Box<[T]> {
         let mut all = self.all.clone();
         all[self.from..self.from + self.length].copy_from_slice(content);
         all
@@ -156,6 +173,13 @@ impl Met {
             "no start", "scanned",
         ];
         names.extend(verdicts.map(String::from));
+        let layouts = [
+            "equal lengths",
+            "mixed lengths",
+            "label of edition 1",
+            "label of edition 2",
+        ];
+        names.extend(layouts.map(String::from));
         let counts = vec![0; names.len()];
         Met { names, counts }
     }
@@ -196,12 +220,12 @@ struct Run {
 }
 
 impl Run {
-    fn lend(&mut self, content: &[u8], after: &[u8]) -> Lent {
+    fn lend<T: Shown>(&mut self, content: &[T], after: &[T]) -> Lent<T> {
         Lent::new(&mut self.rng, self.exact, content, after)
     }
 
     /// A buffer of random bytes.
-    fn buffer(&mut self, length: usize) -> Lent {
+    fn buffer(&mut self, length: usize) -> Lent<u8> {
         let content = self.rng.bytes(length);
         self.lend(&content, &[])
     }
@@ -228,13 +252,19 @@ impl Run {
         exit(1);
     }
 
-    fn same<T: PartialEq + std::fmt::Debug>(&self, call: &dyn Fn() -> String, wanted: T, got: T) {
+    fn same<T: PartialEq + Debug>(&self, call: &dyn Fn() -> String, wanted: T, got: T) {
         if wanted != got {
             self.disagree(&call(), format!("{wanted:?}"), format!("{got:?}"));
         }
     }
 
-    fn same_bytes(&self, call: &dyn Fn() -> String, what: &str, wanted: &[u8], lent: &Lent) {
+    fn same_all<T: Shown>(
+        &self,
+        call: &dyn Fn() -> String,
+        what: &str,
+        wanted: &[T],
+        lent: &Lent<T>,
+    ) {
         if *wanted == *lent.all {
             return;
         }
@@ -244,59 +274,59 @@ impl Run {
         let wanted = &wanted[lent.from..lent.from + length];
         self.disagree(
             &format!("{} {what} differs at {place} of {length}", call()),
-            hex(wanted),
-            hex(lent.content()),
+            T::shown(wanted),
+            T::shown(lent.content()),
         );
     }
 
-    fn check_write(&mut self, k: u32, b: u32, message: &[u8], out_length: usize) {
+    fn check_write(&mut self, lengths: &[u16], b: u32, message: &[u8], out_length: usize) {
+        let layout = self.lend(lengths, &[]);
         let lent = self.lend(message, &[]);
         let mut out = self.buffer(out_length);
         let mut wanted_out = out.content().to_vec();
-        let answer = oracle::write(k, b, message, &mut wanted_out);
+        let answer = oracle::write(lengths, b, message, &mut wanted_out);
         self.count("write", &answer);
-        let wanted = match answer {
-            Ok(letters) => Written {
-                refusal: 0,
-                place: 0,
-                letters,
-            },
-            Err(refused) => Written {
-                refusal: refused.number,
-                place: refused.place,
-                letters: 0,
-            },
-        };
-        let (message_before, out_wanted) = (lent.with(message), out.with(&wanted_out));
+        let wanted = written_of(answer);
+        let (layout_before, message_before) = (layout.with(lengths), lent.with(message));
+        let out_wanted = out.with(&wanted_out);
         let out_ptr = out.as_mut_ptr();
-        let got =
-            unsafe { ffi::dnalm_write(k, b, lent.as_ptr(), message.len(), out_ptr, out_length) };
-        let call = || {
-            format!(
-                "write k {k} B {b} message {} out {out_length}",
-                hex(message)
+        let got = unsafe {
+            ffi::dnalm_write(
+                layout.as_ptr(),
+                lengths.len(),
+                b,
+                lent.as_ptr(),
+                message.len(),
+                out_ptr,
+                out_length,
             )
         };
+        let call = || {
+            let (lengths, message) = (u16::shown(lengths), hex(message));
+            format!("write lengths {lengths} B {b} message {message} out {out_length}")
+        };
         self.same(&call, wanted, got);
-        self.same_bytes(&call, "out", &out_wanted, &out);
-        self.same_bytes(&call, "message", &message_before, &lent);
+        self.same_all(&call, "out", &out_wanted, &out);
+        self.same_all(&call, "message", &message_before, &lent);
+        self.same_all(&call, "lengths", &layout_before, &layout);
     }
 
     /// Hands back the library's counts, bytes and sheet.
     fn check_read(
         &mut self,
-        k: u32,
+        lengths: &[u16],
         b: u32,
         letters: &[u8],
         after: &[u8],
-        lengths: (usize, usize),
+        rooms: (usize, usize),
     ) -> (Counts, Vec<u8>, Vec<u8>) {
+        let layout = self.lend(lengths, &[]);
         let lent = self.lend(letters, after);
-        let mut message = self.buffer(lengths.0);
-        let mut sheet = self.buffer(lengths.1);
+        let mut message = self.buffer(rooms.0);
+        let mut sheet = self.buffer(rooms.1);
         let mut wanted_message = message.content().to_vec();
         let mut wanted_sheet = sheet.content().to_vec();
-        let answer = oracle::read(k, b, letters, &mut wanted_message, &mut wanted_sheet);
+        let answer = oracle::read(lengths, b, letters, &mut wanted_message, &mut wanted_sheet);
         self.count("read", &answer);
         let wanted = match answer {
             Ok([clean, corrected, lost]) => Counts {
@@ -314,40 +344,51 @@ impl Run {
                 lost: 0,
             },
         };
-        let letters_before = lent.with(letters);
+        let (layout_before, letters_before) = (layout.with(lengths), lent.with(letters));
         let message_wanted = message.with(&wanted_message);
         let sheet_wanted = sheet.with(&wanted_sheet);
         let (message_ptr, sheet_ptr) = (message.as_mut_ptr(), sheet.as_mut_ptr());
         let got = unsafe {
             ffi::dnalm_read(
-                k,
+                layout.as_ptr(),
+                lengths.len(),
                 b,
                 lent.as_ptr(),
                 letters.len(),
                 message_ptr,
-                lengths.0,
+                rooms.0,
                 sheet_ptr,
-                lengths.1,
+                rooms.1,
             )
         };
         let call = || {
+            let (lengths, letters) = (u16::shown(lengths), letters.escape_ascii());
+            let (message, sheet) = rooms;
             format!(
-                "read k {k} B {b} letters {} message {} sheet {}",
-                letters.escape_ascii(),
-                lengths.0,
-                lengths.1
+                "read lengths {lengths} B {b} letters {letters} message {message} sheet {sheet}"
             )
         };
         self.same(&call, wanted, got);
-        self.same_bytes(&call, "message", &message_wanted, &message);
-        self.same_bytes(&call, "sheet", &sheet_wanted, &sheet);
-        self.same_bytes(&call, "letters", &letters_before, &lent);
+        self.same_all(&call, "message", &message_wanted, &message);
+        self.same_all(&call, "sheet", &sheet_wanted, &sheet);
+        self.same_all(&call, "letters", &letters_before, &lent);
+        self.same_all(&call, "lengths", &layout_before, &layout);
         (got, message.content().to_vec(), sheet.content().to_vec())
     }
 
-    fn check_piece(&mut self, k: u32, b: u32, letters: &[u8], after: &[u8], segment: u32) {
+    /// The segments are those of the oracle's reading.
+    fn check_piece(
+        &mut self,
+        lengths: &[u16],
+        b: u32,
+        letters: &[u8],
+        after: &[u8],
+        segments: &Result<Vec<Segment>, Refused>,
+        segment: u32,
+    ) {
+        let layout = self.lend(lengths, &[]);
         let lent = self.lend(letters, after);
-        let answer = oracle::piece(k, b, letters, segment);
+        let answer = oracle::piece(segments, segment);
         self.count("piece", &answer);
         let wanted = match answer {
             Ok((start, length)) => Piece {
@@ -363,46 +404,77 @@ impl Run {
                 length: 0,
             },
         };
-        let before = lent.with(letters);
-        let got = unsafe { ffi::dnalm_piece(k, b, lent.as_ptr(), letters.len(), segment) };
+        let (layout_before, before) = (layout.with(lengths), lent.with(letters));
+        let (layout_ptr, letters_ptr) = (layout.as_ptr(), lent.as_ptr());
+        let (count, length) = (lengths.len(), letters.len());
+        let got = unsafe { ffi::dnalm_piece(layout_ptr, count, b, letters_ptr, length, segment) };
         let call = || {
-            let letters = letters.escape_ascii();
-            format!("piece k {k} B {b} letters {letters} segment {segment}")
+            let (lengths, letters) = (u16::shown(lengths), letters.escape_ascii());
+            format!("piece lengths {lengths} B {b} letters {letters} segment {segment}")
         };
         self.same(&call, wanted, got);
-        self.same_bytes(&call, "letters", &before, &lent);
+        self.same_all(&call, "letters", &before, &lent);
+        self.same_all(&call, "lengths", &layout_before, &layout);
     }
 
-    fn check_write_label(&mut self, k: u32, b: u32, length: usize) {
+    fn check_pieces(
+        &mut self,
+        lengths: &[u16],
+        b: u32,
+        letters: &[u8],
+        after: &[u8],
+        numbers: &[u32],
+    ) {
+        let segments = oracle::segments(lengths, b, letters);
+        for &segment in numbers {
+            self.check_piece(lengths, b, letters, after, &segments, segment);
+        }
+    }
+
+    fn check_write_label(&mut self, lengths: &[u16], b: u32, length: usize) {
+        let layout = self.lend(lengths, &[]);
         let mut out = self.buffer(length);
         let mut wanted_out = out.content().to_vec();
-        let answer = oracle::write_label(k, b, &mut wanted_out);
+        let answer = oracle::write_label(lengths, b, &mut wanted_out);
         self.count("write label", &answer);
-        let wanted = answer.map_or_else(|refused| refused.number, |()| 0);
-        let out_wanted = out.with(&wanted_out);
-        let got = unsafe { ffi::dnalm_write_label(k, b, out.as_mut_ptr(), length) };
-        let call = || format!("write label k {k} B {b} out {length}");
+        let wanted = written_of(answer);
+        let (layout_before, out_wanted) = (layout.with(lengths), out.with(&wanted_out));
+        let out_ptr = out.as_mut_ptr();
+        let got =
+            unsafe { ffi::dnalm_write_label(layout.as_ptr(), lengths.len(), b, out_ptr, length) };
+        let call = || {
+            let lengths = u16::shown(lengths);
+            format!("write label lengths {lengths} B {b} out {length}")
+        };
         self.same(&call, wanted, got);
-        self.same_bytes(&call, "out", &out_wanted, &out);
+        self.same_all(&call, "out", &out_wanted, &out);
+        self.same_all(&call, "lengths", &layout_before, &layout);
     }
 
     fn check_read_label(&mut self, label: &[u8]) {
-        let lent = self.lend(label, &[]);
+        let behind = self.rng.bytes(4);
+        let lent = self.lend(label, &behind);
         let answer = oracle::read_label(label);
         self.count("read label", &answer);
-        let wanted = match answer {
-            Ok((k, b)) => Order { refusal: 0, k, b },
-            Err(refused) => Order {
-                refusal: refused.number,
-                k: 0,
-                b: 0,
-            },
+        let mut wanted = Order {
+            refusal: 0,
+            b: 0,
+            count: 0,
+            lengths: [0; 64],
         };
+        match answer {
+            Ok((lengths, b)) => {
+                self.met.add(&format!("label of edition {}", label[0] >> 4));
+                (wanted.b, wanted.count) = (b, lengths.len());
+                wanted.lengths[..lengths.len()].copy_from_slice(&lengths);
+            }
+            Err(refused) => wanted.refusal = refused.number,
+        }
         let before = lent.with(label);
         let got = unsafe { ffi::dnalm_read_label(lent.as_ptr(), label.len()) };
         let call = || format!("read label {}", hex(label));
         self.same(&call, wanted, got);
-        self.same_bytes(&call, "label", &before, &lent);
+        self.same_all(&call, "label", &before, &lent);
     }
 
     fn check_tally(&mut self, tally: Tally, [clean, corrected, lost]: [u32; 3]) {
@@ -427,8 +499,8 @@ impl Run {
     }
 
     /// Counts the verdicts of a strand that is read.
-    fn count_verdicts(&mut self, k: u32, b: u32, letters: &[u8]) {
-        for segment in oracle::segments(k, b, letters).unwrap_or_default() {
+    fn count_verdicts(&mut self, lengths: &[u16], b: u32, letters: &[u8]) {
+        for segment in oracle::segments(lengths, b, letters).unwrap_or_default() {
             let name = match segment.verdict {
                 Verdict::Read(Edit::None) => "clean",
                 Verdict::Read(Edit::Sub { .. }) => "sub",
@@ -448,22 +520,52 @@ impl Run {
         }
     }
 
-    /// A label with a bit changed now and then, cut to each length.
-    fn labels(&mut self, k: u32, b: u32) {
-        let length = self.rng.below(7);
-        self.check_write_label(k, b, length);
-        self.check_write_label(k, b, 4);
-        let mut label = (1 << 28 | (k & 127) << 21 | (b & 255) << 13)
-            .to_be_bytes()
-            .to_vec();
-        label.extend(self.rng.bytes(3));
-        let length = self.rng.below(8);
+    /// A label whole, cut, with bytes behind it and with a bit changed.
+    fn labels_like(&mut self, label: &[u8]) {
+        self.check_read_label(label);
+        let length = self.rng.below(label.len() + 1);
+        let length = self.rng.of(&[label.len() - 1, length, length.min(4)]);
         self.check_read_label(&label[..length]);
-        self.check_read_label(&label[..4]);
-        let place = self.rng.below(32);
-        label[place / 8] ^= 1 << (place % 8);
-        self.check_read_label(&label);
-        let random = self.rng.bytes(4);
+        let more = 1 + self.rng.below(4);
+        let mut longer = label.to_vec();
+        longer.extend(self.rng.bytes(more));
+        self.check_read_label(&longer);
+        let (bits, random) = (8 * label.len(), self.rng.below(8 * label.len()));
+        let near_end = bits - 1 - self.rng.below(8);
+        let place = self.rng.of(&[random, random, random % 19, near_end]);
+        longer[place / 8] ^= 0x80 >> (place % 8);
+        self.check_read_label(&longer);
+        longer.truncate(label.len());
+        self.check_read_label(&longer);
+    }
+
+    /// Labels of lengths and B by both editions, of equal lengths, of counts that are none, and random ones.
+    fn labels(&mut self, lengths: &[u16], b: u32) {
+        let needed = strands::label_length(lengths);
+        let room = self.rng.below(needed + 3);
+        for room in [room, needed - 1, needed] {
+            self.check_write_label(lengths, b, room);
+        }
+        let k = lengths.first().copied().unwrap_or(0);
+        self.labels_like(&strands::label_1(k, b));
+        self.labels_like(&strands::label_2(lengths, b));
+        let count = self.rng.of(&[1, 1, 2, 3, lengths.len().max(1), 63, 64, 65]);
+        let bad = strands::bad_length(&mut self.rng);
+        let length = self.rng.of(&[k, k, 2, 8, 64, bad]);
+        let sum = (count as u32 * length as u32 / 4) & 255;
+        let b_of_count = self.rng.of(&[b, sum]);
+        self.labels_like(&strands::label_2(&vec![length; count], b_of_count));
+        let count = self.rng.of(&[0, 0, 65, 66, 127]);
+        let mut many = self.rng.lengths(count, 2, 7);
+        if self.rng.once_in(4) {
+            strands::bad_lengths(&mut self.rng, &mut many);
+        }
+        let b_of_many = self.rng.of(&[b, strands::sum(&many) / 4, 0, 129]);
+        self.labels_like(&strands::label_2(&many, b_of_many));
+        let count = 1 + self.rng.below(70);
+        let mut random = self.rng.bytes(count);
+        self.check_read_label(&random);
+        random[0] = random[0] & 0x0F | self.rng.of(&[0x10, 0x20]);
         self.check_read_label(&random);
         let field = self.rng.next() as u32 & 0x0FFF_E000 | 1 << 28;
         self.check_read_label(&field.to_be_bytes());
@@ -497,60 +599,52 @@ impl Run {
         self.check_tally(tally, one);
     }
 
-    fn pieces(&mut self, k: u32, b: u32, letters: &[u8], after: &[u8]) {
-        for segment in 0..=4 * b / k + 1 {
-            self.check_piece(k, b, letters, after, segment);
-        }
-        let random = self.rng.next() as u32;
-        for segment in [u32::MAX, random] {
-            self.check_piece(k, b, letters, after, segment);
-        }
+    fn pieces(&mut self, lengths: &[u16], b: u32, letters: &[u8], after: &[u8]) {
+        let mut numbers: Vec<u32> = (0..=lengths.len() as u32 + 1).collect();
+        numbers.extend([u32::MAX, self.rng.next() as u32]);
+        self.check_pieces(lengths, b, letters, after, &numbers);
     }
 
     /// Every length of each buffer from 0 up to past the needed one.
-    fn short_buffers(&mut self, k: u32, b: u32, message: &[u8], letters: &[u8]) {
-        let needed = strands::segment_lengths(k, b).iter().sum::<usize>();
-        for length in 0..=needed + 2 {
-            self.check_write(k, b, message, length);
+    fn short_buffers(&mut self, lengths: &[u16], b: u32, message: &[u8], letters: &[u8]) {
+        let needed = strands::strand_length(lengths);
+        for room in 0..=needed + 2 {
+            self.check_write(lengths, b, message, room);
         }
-        let (bytes, sheet) = (b as usize, (4 * b / k).div_ceil(4) as usize);
-        for length in 0..=bytes + 2 {
-            self.check_read(k, b, letters, &[], (length, sheet));
+        let (bytes, sheet) = (b as usize, lengths.len().div_ceil(4));
+        for room in 0..=bytes + 2 {
+            self.check_read(lengths, b, letters, &[], (room, sheet));
         }
-        for length in 0..=sheet + 2 {
-            self.check_read(k, b, letters, &[], (bytes, length));
-            self.check_read(k, b, letters, &[], (bytes + 1, length));
+        for room in 0..=sheet + 2 {
+            self.check_read(lengths, b, letters, &[], (bytes, room));
+            self.check_read(lengths, b, letters, &[], (bytes + 1, room));
         }
-        for length in 0..=6 {
-            self.check_write_label(k, b, length);
+        for room in 0..=strands::label_length(lengths) + 2 {
+            self.check_write_label(lengths, b, room);
         }
         for length in 0..=bytes + 2 {
             let message = self.rng.bytes(length);
-            self.check_write(k, b, &message, needed);
+            self.check_write(lengths, b, &message, needed);
         }
     }
 
     /// Some faults at once: the first in the table's order is told.
     fn many_faults(&mut self, pairs: &[(u32, u32)]) {
-        let (mut k, mut b) = strands::layout(&mut self.rng, pairs);
+        let (mut lengths, mut b) = strands::layout(&mut self.rng, pairs);
         let seldom = self.rng.of(&[2, 8, 30]);
         if self.rng.once_in(seldom) {
-            (k, b) = strands::bad_cut(&mut self.rng);
+            (lengths, b) = strands::bad_cut(&mut self.rng);
         }
         if self.rng.once_in(seldom) {
             b = strands::bad_b(&mut self.rng);
         }
         if self.rng.once_in(seldom) {
-            k = strands::bad_k(&mut self.rng);
+            strands::bad_lengths(&mut self.rng, &mut lengths);
         }
         let often = self.rng.of(&[2, 3]);
-        let taken = oracle::layout(k, b, None).is_ok();
+        let taken = oracle::layout(&lengths, b, None).is_ok();
         let bytes = b.min(300) as usize;
-        let sheet = if taken {
-            (4 * b / k).div_ceil(4) as usize
-        } else {
-            16
-        };
+        let sheet = if taken { lengths.len().div_ceil(4) } else { 16 };
         let mut letters = if self.rng.once_in(often) {
             strands::overlong(&mut self.rng)
         } else {
@@ -564,126 +658,152 @@ impl Run {
             true => self.rng.below(needed + 1),
             false => needed + self.rng.below(3),
         };
-        let (message_room, sheet_room, label_room) = (room(bytes), room(sheet), room(4));
+        let (message_room, sheet_room) = (room(bytes), room(sheet));
+        let label_room = room(strands::label_length(&lengths));
         let message_length = room(bytes).min(bytes + 1);
         let out_room = room(if taken {
-            strands::segment_lengths(k, b).iter().sum()
+            strands::strand_length(&lengths)
         } else {
             1200
         });
-        self.check_read(k, b, &letters, &[], (message_room, sheet_room));
-        let l = if taken { 4 * b / k } else { 64 };
+        self.check_read(&lengths, b, &letters, &[], (message_room, sheet_room));
+        let l = if taken { lengths.len() as u32 } else { 64 };
         let inside = 1 + self.rng.below(l as usize) as u32;
-        for segment in [0, inside, l + 1, u32::MAX] {
-            self.check_piece(k, b, &letters, &[], segment);
-        }
+        self.check_pieces(&lengths, b, &letters, &[], &[0, inside, l + 1, u32::MAX]);
         let message = self.rng.bytes(message_length);
-        self.check_write(k, b, &message, out_room);
-        self.check_write_label(k, b, label_room);
-        self.labels(k, b);
+        self.check_write(&lengths, b, &message, out_room);
+        self.check_write_label(&lengths, b, label_room);
+        self.labels(&lengths, b);
     }
 
     fn one_case(&mut self, pairs: &[(u32, u32)]) {
         self.met.add(&format!("{:?}", self.kind));
-        let (mut k, mut b) = strands::layout(&mut self.rng, pairs);
         if self.kind == Kind::ManyFaults {
             for _ in 0..4 {
                 self.many_faults(pairs);
             }
             return;
         }
+        let (mut lengths, mut b) = strands::layout(&mut self.rng, pairs);
+        let equal = lengths.iter().all(|&k| k == lengths[0]);
+        self.met.add(if equal {
+            "equal lengths"
+        } else {
+            "mixed lengths"
+        });
         let message = strands::message(&mut self.rng, b);
-        let needed = strands::segment_lengths(k, b).iter().sum::<usize>();
+        let needed = strands::strand_length(&lengths);
         let more = self.rng.of(&[0, 0, 1, 40]);
-        self.check_write(k, b, &message, needed + more);
+        self.check_write(&lengths, b, &message, needed + more);
         let mut strand = vec![0; needed];
-        oracle::write(k, b, &message, &mut strand).expect("a taken message");
-        let letters = match self.kind {
-            Kind::Untouched => strand.clone(),
-            Kind::OneEdit | Kind::ShortBuffers => strands::one_edit(&mut self.rng, k, b, &strand),
-            Kind::Damaged(damage) => strands::damaged(&mut self.rng, damage, k, b, &strand),
-            Kind::Overlong => strands::overlong(&mut self.rng),
-            Kind::Foreign => {
-                let damage = self.rng.of(&strands::DAMAGES);
-                let mut letters = strands::damaged(&mut self.rng, damage, k, b, &strand);
-                if letters.is_empty() {
-                    letters = strand.clone();
-                }
-                strands::foreign(&mut self.rng, &mut letters);
-                letters
+        oracle::write(&lengths, b, &message, &mut strand).expect("a taken message");
+        let letters = self.received(&lengths, &strand);
+        if self.kind == Kind::OutsideLimits {
+            match self.rng.below(3) {
+                0 => strands::bad_lengths(&mut self.rng, &mut lengths),
+                1 => b = strands::bad_b(&mut self.rng),
+                _ => (lengths, b) = strands::bad_cut(&mut self.rng),
             }
-            Kind::OutsideLimits => {
-                match self.rng.below(3) {
-                    0 => k = strands::bad_k(&mut self.rng),
-                    1 => b = strands::bad_b(&mut self.rng),
-                    _ => (k, b) = strands::bad_cut(&mut self.rng),
-                }
-                strand.clone()
-            }
-            Kind::ManyFaults => return,
-        };
+        }
         let rest = strand.get(letters.len()..).unwrap_or(&[]);
-        let taken = oracle::layout(k, b, None).is_ok();
+        let taken = oracle::layout(&lengths, b, None).is_ok();
         let (bytes, sheet) = if taken {
-            (b as usize, (4 * b / k).div_ceil(4) as usize)
+            (b as usize, lengths.len().div_ceil(4))
         } else {
             (200, 20)
         };
         let more = (self.rng.of(&[0, 0, 1, 30]), self.rng.of(&[0, 0, 1, 30]));
-        let lengths = (bytes + more.0, sheet + more.1);
-        let (got, read, marks) = self.check_read(k, b, &letters, rest, lengths);
-        self.count_verdicts(k, b, &letters);
+        let rooms = (bytes + more.0, sheet + more.1);
+        let (got, read, marks) = self.check_read(&lengths, b, &letters, rest, rooms);
+        self.count_verdicts(&lengths, b, &letters);
         let conditions = [Kind::Untouched, Kind::OneEdit, Kind::ShortBuffers];
         if conditions.contains(&self.kind) {
-            self.demand(k, b, &message, &letters, got, &read, &marks);
+            self.demand(&lengths, &message, &letters, got, &read, &marks);
         }
         if taken {
-            self.pieces(k, b, &letters, rest);
+            self.pieces(&lengths, b, &letters, rest);
         } else {
             let written = self.rng.of(&[message.len(), b.min(500) as usize]);
             let message = self.rng.bytes(written);
-            self.check_write(k, b, &message, 1200);
-            for segment in [0, 1, 64, u32::MAX] {
-                self.check_piece(k, b, &letters, rest, segment);
-            }
+            self.check_write(&lengths, b, &message, 1200);
+            self.check_pieces(&lengths, b, &letters, rest, &[0, 1, 64, u32::MAX]);
         }
         if self.kind == Kind::ShortBuffers {
-            self.short_buffers(k, b, &message, &letters);
+            self.short_buffers(&lengths, b, &message, &letters);
         }
-        self.labels(k, b);
+        self.labels(&lengths, b);
         self.tallies([got.clean, got.corrected, got.lost]);
     }
 
+    /// The letters that come of a written strand.
+    fn received(&mut self, lengths: &[u16], strand: &[u8]) -> Vec<u8> {
+        let rng = &mut self.rng;
+        match self.kind {
+            Kind::OneEdit | Kind::ShortBuffers => strands::one_edit(rng, lengths, strand),
+            Kind::Damaged(damage) => strands::damaged(rng, damage, lengths, strand),
+            Kind::Overlong => strands::overlong(rng),
+            Kind::Foreign => {
+                let damage = rng.of(&strands::DAMAGES);
+                let mut letters = strands::damaged(rng, damage, lengths, strand);
+                if letters.is_empty() {
+                    letters = strand.to_vec();
+                }
+                strands::foreign(rng, &mut letters);
+                letters
+            }
+            Kind::Untouched | Kind::OutsideLimits | Kind::ManyFaults => strand.to_vec(),
+        }
+    }
+
     /// What demand 3 claims of a strand that keeps the one-edit conditions.
-    #[allow(clippy::too_many_arguments)]
     fn demand(
         &self,
-        k: u32,
-        b: u32,
+        lengths: &[u16],
         message: &[u8],
         letters: &[u8],
         got: Counts,
         read: &[u8],
         sheet: &[u8],
     ) {
-        let l = 4 * b / k;
-        let mut counts = [0; 4];
-        for i in 0..l as usize {
-            counts[(sheet[i / 4] >> (6 - 2 * (i % 4)) & 3) as usize] += 1;
-        }
-        let fits = read[..b as usize] == *message
-            && got.refusal == 0
-            && got.lost == 0
-            && got.clean + got.corrected == l
-            && counts == [got.clean, got.corrected, 0, 0]
-            && (self.kind != Kind::Untouched || got.clean == l);
+        let fits = read[..message.len()] == *message
+            && none_lost(lengths, got, sheet)
+            && (self.kind != Kind::Untouched || got.clean as usize == lengths.len());
         if !fits {
+            let (lengths, letters) = (u16::shown(lengths), letters.escape_ascii());
             self.disagree(
-                &format!("demand 3 k {k} B {b} letters {}", letters.escape_ascii()),
+                &format!("demand 3 lengths {lengths} letters {letters}"),
                 hex(message),
                 format!("{} {got:?} sheet {}", hex(read), hex(sheet)),
             );
         }
+    }
+}
+
+/// Whether each segment is clean or corrected, by the counts and by the sheet.
+fn none_lost(lengths: &[u16], got: Counts, sheet: &[u8]) -> bool {
+    let mut counts = [0; 4];
+    for i in 0..lengths.len() {
+        counts[(sheet[i / 4] >> (6 - 2 * (i % 4)) & 3) as usize] += 1;
+    }
+    got.refusal == 0
+        && (got.clean + got.corrected) as usize == lengths.len()
+        && counts == [got.clean, got.corrected, 0, 0]
+        && got.lost == 0
+}
+
+/// What a writing answers, by the oracle.
+fn written_of(answer: Result<usize, Refused>) -> Written {
+    match answer {
+        Ok(length) => Written {
+            refusal: 0,
+            place: 0,
+            length,
+        },
+        Err(refused) => Written {
+            refusal: refused.number,
+            place: refused.place,
+            length: 0,
+        },
     }
 }
 
@@ -718,36 +838,23 @@ fn compare(seed: u64, count: u64, small: bool) {
 }
 
 /// Reads by the library with buffers of the needed lengths.
-fn library_read(k: u32, b: u32, letters: &[u8]) -> (Counts, Vec<u8>, Vec<u8>) {
+fn library_read(lengths: &[u16], b: u32, letters: &[u8]) -> (Counts, Vec<u8>, Vec<u8>) {
     let mut message = vec![0xA5; b.min(200) as usize];
-    let mut sheet = vec![0xA5; (4 * b.min(200) / k.max(1)).div_ceil(4) as usize];
-    let got = unsafe {
-        ffi::dnalm_read(
-            k,
-            b,
-            letters.as_ptr(),
-            letters.len(),
-            message.as_mut_ptr(),
-            message.len(),
-            sheet.as_mut_ptr(),
-            sheet.len(),
-        )
-    };
+    let mut sheet = vec![0xA5; lengths.len().div_ceil(4)];
+    let got = ffi::read(lengths, b, letters, &mut message, &mut sheet);
     (got, message, sheet)
 }
 
-fn library_write(k: u32, b: u32, message: &[u8]) -> (Written, Vec<u8>) {
+fn library_write(lengths: &[u16], b: u32, message: &[u8]) -> (Written, Vec<u8>) {
     let mut out = vec![0; 1500];
-    let (message_ptr, out_ptr) = (message.as_ptr(), out.as_mut_ptr());
-    let got = unsafe { ffi::dnalm_write(k, b, message_ptr, message.len(), out_ptr, out.len()) };
-    out.truncate(got.letters);
+    let got = ffi::write(lengths, b, message, &mut out);
+    out.truncate(got.length);
     (got, out)
 }
 
-/// Demand 3 for every message and every allowed edit of one layout.
+/// Demand 3 for one message and every allowed edit.
 struct Demand {
-    k: u32,
-    b: u32,
+    lengths: Vec<u16>,
     message: Vec<u8>,
     segments: Vec<Vec<u8>>,
     strands: u64,
@@ -756,26 +863,19 @@ struct Demand {
 impl Demand {
     fn check(&mut self, letters: &[u8]) {
         self.strands += 1;
-        let (k, b) = (self.k, self.b);
-        let l = 4 * b / k;
-        let (got, message, sheet) = library_read(k, b, letters);
-        let mut counts = [0; 4];
-        for i in 0..l as usize {
-            counts[(sheet[i / 4] >> (6 - 2 * (i % 4)) & 3) as usize] += 1;
-        }
+        let (lengths, b) = (&self.lengths, self.message.len() as u32);
+        let (got, message, sheet) = library_read(lengths, b, letters);
         let (mut steps_message, mut steps_sheet) = (vec![0; b as usize], vec![0; sheet.len()]);
-        let steps = oracle::read(k, b, letters, &mut steps_message, &mut steps_sheet);
-        let fits = got.refusal == 0
-            && message == self.message
-            && got.lost == 0
-            && got.clean + got.corrected == l
-            && counts == [got.clean, got.corrected, 0, 0]
+        let steps = oracle::read(lengths, b, letters, &mut steps_message, &mut steps_sheet);
+        let fits = message == self.message
+            && none_lost(lengths, got, &sheet)
             && steps == Ok([got.clean, got.corrected, got.lost])
             && sheet == steps_sheet;
         if !fits {
             println!(
-                "disagreement: demand 3 k {k} B {b} letters {} message {} oracle {} {} {steps:?} \
+                "disagreement: demand 3 lengths {} letters {} message {} oracle {} {} {steps:?} \
                  library {} {} {got:?}",
+                u16::shown(lengths),
                 letters.escape_ascii(),
                 hex(&self.message),
                 hex(&steps_message),
@@ -794,7 +894,7 @@ impl Demand {
             return;
         }
         let segment = self.segments[number].clone();
-        let t = strands::syndrome_length(self.k);
+        let t = strands::syndrome_length(self.lengths[number]);
         self.segment(number + 1, &[received, &segment].concat(), false);
         if spared {
             return;
@@ -807,36 +907,54 @@ impl Demand {
     }
 }
 
+/// Every allowed edit of the strand of one message; hands back the number of strands.
+fn demand_of(lengths: &[u16], message: &[u8]) -> u64 {
+    let b = message.len() as u32;
+    let (written, strand) = library_write(lengths, b, message);
+    let mut wanted = vec![0; 64];
+    let answer = oracle::write(lengths, b, message, &mut wanted);
+    wanted.truncate(answer.unwrap_or(0));
+    if written.refusal != 0 || strand.is_empty() || strand != wanted {
+        println!(
+            "disagreement: write lengths {} message {} oracle {} library {written:?} {}",
+            u16::shown(lengths),
+            hex(message),
+            wanted.escape_ascii(),
+            strand.escape_ascii()
+        );
+        exit(1);
+    }
+    let mut demand = Demand {
+        lengths: lengths.to_vec(),
+        message: message.to_vec(),
+        segments: strands::cut(lengths, &strand),
+        strands: 0,
+    };
+    demand.segment(0, &[], false);
+    demand.strands
+}
+
+/// Every message of one byte, and some of two.
 fn demand3() {
-    for (k, b) in [(2, 1), (4, 1)] {
-        let mut strands = 0;
-        for byte in 0..=255 {
-            let (written, strand) = library_write(k, b, &[byte]);
-            if written.refusal != 0 || strand.is_empty() {
-                println!("disagreement: demand 3 k {k} B {b} message {byte:02X} {written:?}");
-                exit(1);
-            }
-            let mut wanted = vec![0; 64];
-            let length = oracle::write(k, b, &[byte], &mut wanted).expect("a taken message");
-            if strand != wanted[..length] {
-                println!(
-                    "disagreement: write k {k} B {b} message {byte:02X} oracle {} library {}",
-                    wanted[..length].escape_ascii(),
-                    strand.escape_ascii()
-                );
-                exit(1);
-            }
-            let mut demand = Demand {
-                k,
-                b,
-                message: vec![byte],
-                segments: strands::cut(k, b, &strand),
-                strands: 0,
-            };
-            demand.segment(0, &[], false);
-            strands += demand.strands;
-        }
-        println!("demand 3: k {k} B {b}, 256 messages, {strands} strands hold");
+    let bytes: Vec<Vec<u8>> = (0..=255).map(|byte| vec![byte]).collect();
+    let pairs: Vec<Vec<u8>> = (0..=255u8)
+        .step_by(19)
+        .map(|byte| vec![byte, byte.wrapping_mul(29).wrapping_add(7)])
+        .collect();
+    let layouts: [(&[u16], &[Vec<u8>]); 8] = [
+        (&[2, 2], &bytes),
+        (&[4], &bytes),
+        (&[2, 6], &pairs),
+        (&[6, 2], &pairs),
+        (&[3, 5], &pairs),
+        (&[5, 3], &pairs),
+        (&[2, 4, 2], &pairs[3..4]),
+        (&[3, 2, 3], &pairs[5..6]),
+    ];
+    for (lengths, messages) in layouts {
+        let strands: u64 = messages.iter().map(|m| demand_of(lengths, m)).sum();
+        let (lengths, count) = (u16::shown(lengths), messages.len());
+        println!("demand 3: lengths {lengths}, {count} messages, {strands} strands hold");
     }
 }
 
@@ -856,27 +974,24 @@ fn letters_of(symbols: &str) -> Vec<u8> {
 
 /// The sample strands of docs/SPECIFICATION.md.
 fn samples() {
-    let sample_write = |k, b, message: &[u8]| {
-        let (got, strand) = library_write(k, b, message);
-        (got.refusal, got.letters, strand)
+    let sample_write = |lengths: &[u16], b, message: &[u8]| {
+        let (got, strand) = library_write(lengths, b, message);
+        (got.refusal, got.length, strand)
     };
     // The message 013 210 000 000.
-    let (_, _, strand) = sample_write(3, 3, &[0x1E, 0x40, 0x00]);
+    let (_, _, strand) = sample_write(&[3; 4], 3, &[0x1E, 0x40, 0x00]);
     sample("013", strand[..10].to_vec(), letters_of("0130333123"));
     sample("210", strand[10..22].to_vec(), letters_of("002103222012"));
     for ((a, b, c), s) in [((0, 1, 2), 3), ((3, 2, 1), 0), ((3, 0, 1), 2)] {
         sample("Sep", oracle::sep(a, b, c), s);
     }
     let strand4 = b"ATCGCAAAGGC".to_vec();
-    sample("1B k=4", sample_write(4, 1, &[0x1B]), (0, 11, strand4));
+    sample("1B k=4", sample_write(&[4], 1, &[0x1B]), (0, 11, strand4));
     let strand2 = b"ATTGGGTATTCGTAAAGC".to_vec();
-    sample(
-        "1B k=2",
-        sample_write(2, 1, &[0x1B]),
-        (0, 18, strand2.clone()),
-    );
+    let wanted = (0, 18, strand2.clone());
+    sample("1B k=2", sample_write(&[2, 2], 1, &[0x1B]), wanted);
     let sample_read = |letters: &[u8]| {
-        let (got, message, sheet) = library_read(2, 1, letters);
+        let (got, message, sheet) = library_read(&[2, 2], 1, letters);
         let counts = [got.refusal, got.clean, got.corrected, got.lost];
         (counts, message, sheet)
     };
@@ -894,46 +1009,93 @@ fn samples() {
     sample("empty strand", sample_read(b""), lost);
     let untouched = ([0, 2, 0, 0], vec![0x1B], vec![0x00]);
     sample("untouched", sample_read(&strand2), untouched);
-    let label = |k, b| {
-        let mut bytes = [0xEE; 5];
-        let refusal = unsafe { ffi::dnalm_write_label(k, b, bytes.as_mut_ptr(), 5) };
-        (refusal, hex(&bytes))
-    };
-    sample("label", label(16, 32), (0, String::from("12040000EE")));
+    let letters = [(16, 214), (32, 174), (64, 152)];
+    for (k, letters) in letters {
+        let lengths = strands::equal_lengths(k, 32);
+        sample("letters", sample_write(&lengths, 32, &[7; 32]).1, letters);
+    }
+    let longest = [&[9; 48][..], &[5; 16]].concat();
     sample(
-        "label k=2 B=1",
-        label(2, 1),
-        (0, String::from("10402000EE")),
+        "most letters",
+        sample_write(&longest, 128, &[7; 128]).1,
+        1198,
     );
-    let bytes = [0x10, 0x40, 0x20, 0x00];
-    let order = unsafe { ffi::dnalm_read_label(bytes.as_ptr(), 4) };
-    let wanted = Order {
-        refusal: 0,
-        k: 2,
-        b: 1,
-    };
-    sample("label read", order, wanted);
-    for (k, letters) in [(16, 214), (32, 174), (64, 152)] {
-        sample("letters", sample_write(k, 32, &[7; 32]).1, letters);
-    }
-    let limits = [
-        (1, 1, 1),
-        (2, 32, 0),
-        (2, 33, 3),
-        (3, 1, 3),
-        (65, 65, 1),
-        (64, 128, 0),
-        (64, 129, 2),
+    let limits: [(&[u16], u32, u32); 14] = [
+        (&[1; 4], 1, 1),
+        (&[2; 64], 32, 0),
+        (&[2; 66], 33, 3),
+        (&[2; 65], 32, 3),
+        (&[3], 1, 3),
+        (&[3, 3], 1, 3),
+        (&[65; 4], 65, 1),
+        (&[64; 8], 128, 0),
+        (&[64; 8], 129, 2),
+        (&[], 1, 3),
+        (&[], 0, 2),
+        (&[2, 3, 2], 2, 3),
+        (&[2, 1, 5], 2, 1),
+        (&[2, 6], 2, 0),
     ];
-    for (k, b, number) in limits {
-        let name = format!("k={k} B={b}");
-        sample(&name, sample_write(k, b, &vec![9; b as usize]).0, number);
-        sample(&name, library_read(k, b, b"ATCG").0.refusal, number);
-        sample(&name, label(k, b).0, number);
+    for (lengths, b, number) in limits {
+        let name = format!("lengths {} B {b}", u16::shown(lengths));
+        let message = vec![9; b as usize];
+        sample(&name, sample_write(lengths, b, &message).0, number);
+        sample(&name, library_read(lengths, b, b"ATCG").0.refusal, number);
+        sample(&name, label(lengths, b).0, number);
     }
-    sample("2,048", library_read(16, 32, &[b'A'; 2048]).0.refusal, 0);
-    sample("2,049", library_read(16, 32, &[b'A'; 2049]).0.refusal, 4);
+    let refusal = |letters: &[u8]| library_read(&[16; 8], 32, letters).0.refusal;
+    sample("2,048", refusal(&[b'A'; 2048]), 0);
+    sample("2,049", refusal(&[b'A'; 2049]), 4);
+    sample_labels();
     println!("samples hold");
+}
+
+/// A label by the library, with the byte behind it.
+fn label(lengths: &[u16], b: u32) -> (u32, String) {
+    let mut bytes = [0xEE; 60];
+    let got = ffi::write_label(lengths, b, &mut bytes);
+    (got.refusal, hex(&bytes[..got.length + 1]))
+}
+
+/// Labels of both editions, worked out by hand.
+fn sample_labels() {
+    let written = [
+        (&[16; 8][..], 32, "12040000EE"),
+        (&[2; 2], 1, "10402000EE"),
+        (&[4], 1, "10802000EE"),
+        // 0010 00000010 0000010 0000010 0000110 and seven zero bits.
+        (&[2, 6], 2, "2020408300EE"),
+        (&[2, 4, 2], 2, "2020608202EE"),
+    ];
+    for (lengths, b, wanted) in written {
+        let wanted = (0, String::from(wanted));
+        sample("label", label(lengths, b), wanted);
+    }
+    let read: [(&[u8], u32, u32, &[u16]); 12] = [
+        (&[0x10, 0x40, 0x20, 0x00], 0, 1, &[2, 2]),
+        (&[0x20, 0x20, 0x40, 0x83, 0x00], 0, 2, &[2, 6]),
+        // A byte more is not read, a byte less is too few.
+        (&[0x20, 0x20, 0x40, 0x83, 0x00, 0xFF], 0, 2, &[2, 6]),
+        (&[0x20, 0x20, 0x40, 0x83], 5, 0, &[]),
+        // No count, no lengths, no edition.
+        (&[0x20, 0x20], 5, 0, &[]),
+        (&[0x20, 0x20, 0x00], 3, 0, &[]),
+        (&[0x30, 0x20, 0x40], 5, 0, &[]),
+        (&[0x30, 0x20, 0x40, 0x00], 8, 0, &[]),
+        // A bit behind the last length, equal lengths, lengths 1 and 0.
+        (&[0x20, 0x20, 0x40, 0x83, 0x01], 8, 0, &[]),
+        (&[0x20, 0x20, 0x41, 0x02, 0x00], 8, 0, &[]),
+        (&[0x20, 0x20, 0x40, 0x43, 0x00], 1, 0, &[]),
+        (&[0x20, 0x20, 0x40, 0x80, 0x00], 1, 0, &[]),
+    ];
+    for (bytes, refusal, b, lengths) in read {
+        let got = ffi::read_label(bytes);
+        let mut wanted = [0; 64];
+        wanted[..lengths.len()].copy_from_slice(lengths);
+        let got = (got.refusal, got.b, got.count, got.lengths);
+        let wanted = (refusal, b, lengths.len(), wanted);
+        sample(&format!("label {}", hex(bytes)), got, wanted);
+    }
 }
 
 fn usage() -> ! {

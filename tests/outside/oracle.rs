@@ -34,13 +34,19 @@ pub struct Segment {
     pub message: Vec<u8>,
 }
 
-/// The numbers that follow from k and B.
+/// The numbers of one segment: k, t and its length n.
 #[derive(Clone, Copy, Debug)]
-pub struct Layout {
+pub struct Shape {
     pub k: usize,
-    pub b: usize,
-    pub l: usize,
     pub t: usize,
+    pub n: usize,
+}
+
+/// B, and the numbers of each segment.
+#[derive(Clone, Debug)]
+pub struct Layout {
+    pub b: usize,
+    pub shapes: Vec<Shape>,
 }
 
 /// A tally of strands and of their segments.
@@ -57,23 +63,31 @@ fn refuse<T>(number: u32) -> Result<T, Refused> {
 }
 
 /// Tests 1, 2 and 3; the message's length is tested where there is one.
-pub fn layout(k: u32, b: u32, message: Option<usize>) -> Result<Layout, Refused> {
-    if !(2..=64).contains(&k) {
+pub fn layout(lengths: &[u16], b: u32, message: Option<usize>) -> Result<Layout, Refused> {
+    if lengths.iter().any(|k| !(2..=64).contains(k)) {
         return refuse(1);
     }
     if !(1..=128).contains(&b) {
         return refuse(2);
     }
-    if message.is_some_and(|length| length != b as usize) {
+    let b = b as usize;
+    if message.is_some_and(|length| length != b) {
         return refuse(2);
     }
-    let (k, b) = (k as usize, b as usize);
-    if 4 * b % k != 0 || 4 * b / k > 64 {
+    let sum: usize = lengths.iter().map(|&k| k as usize).sum();
+    if lengths.is_empty() || lengths.len() > 64 || sum != 4 * b {
         return refuse(3);
     }
-    let l = 4 * b / k;
-    let t = bits_to_write(2 * k - 1);
-    Ok(Layout { k, b, l, t })
+    let mut shapes = Vec::new();
+    for &k in lengths {
+        let k = k as usize;
+        let t = bits_to_write(2 * k - 1);
+        // The first segment has no marker.
+        let marker = if shapes.is_empty() { 0 } else { 2 };
+        let n = marker + k + 1 + 3 + t;
+        shapes.push(Shape { k, t, n });
+    }
+    Ok(Layout { b, shapes })
 }
 
 fn bits_to_write(number: usize) -> usize {
@@ -85,17 +99,12 @@ fn bits_to_write(number: usize) -> usize {
 }
 
 impl Layout {
-    /// Length n of a segment; the first has no marker.
-    pub fn n(&self, first: bool) -> usize {
-        self.k + self.t + if first { 4 } else { 6 }
-    }
-
     pub fn strand_length(&self) -> usize {
-        self.l * (self.k + self.t + 6) - 2
+        self.shapes.iter().map(|shape| shape.n).sum()
     }
 
     pub fn sheet_length(&self) -> usize {
-        self.l.div_ceil(4)
+        self.shapes.len().div_ceil(4)
     }
 }
 
@@ -182,15 +191,19 @@ fn written(message: &[u8], f: Option<u8>, t: usize) -> Vec<u8> {
 }
 
 /// Writes the strand of a message; hands back its number of letters.
-pub fn write(k: u32, b: u32, message: &[u8], out: &mut [u8]) -> Result<usize, Refused> {
-    let lay = layout(k, b, Some(message.len()))?;
+pub fn write(lengths: &[u16], b: u32, message: &[u8], out: &mut [u8]) -> Result<usize, Refused> {
+    let lay = layout(lengths, b, Some(message.len()))?;
     if out.len() < lay.strand_length() {
         return refuse(5);
     }
+    let symbols = symbols_of_bytes(message);
+    let mut rest = &symbols[..];
     let mut strand: Vec<u8> = Vec::new();
-    for part in symbols_of_bytes(message).chunks(lay.k) {
+    for shape in &lay.shapes {
+        let (part, more) = rest.split_at(shape.k);
         let f = strand.last().copied();
-        strand.extend(written(part, f, lay.t));
+        strand.extend(written(part, f, shape.t));
+        rest = more;
     }
     assert_eq!(strand.len(), lay.strand_length());
     for (place, &symbol) in strand.iter().enumerate() {
@@ -225,10 +238,10 @@ impl Strand {
         self.take(p, wanted.len()) == Some(wanted)
     }
 
-    /// Whether a clean segment with a marker starts at p.
-    fn clean_at(&self, lay: &Layout, p: usize, f: u8) -> bool {
-        match self.take(p + 2, lay.k) {
-            Some(message) => self.stands(p, &written(message, Some(f), lay.t)),
+    /// Whether a clean segment of this shape, with a marker, starts at p.
+    fn clean_at(&self, shape: &Shape, p: usize, f: u8) -> bool {
+        match self.take(p + 2, shape.k) {
+            Some(message) => self.stands(p, &written(message, Some(f), shape.t)),
             None => false,
         }
     }
@@ -279,8 +292,8 @@ fn repaired_layer(bits: &[u8], named: Named, syndrome: usize) -> Option<Vec<u8>>
 }
 
 /// Step 7: both layers, apart, with the syndrome written at q.
-fn repaired(lay: &Layout, strand: &Strand, bits: &[u8], named: Named, q: usize) -> Option<Vec<u8>> {
-    let a = strand.take(q, lay.t)?;
+fn repaired(t: usize, strand: &Strand, bits: &[u8], named: Named, q: usize) -> Option<Vec<u8>> {
+    let a = strand.take(q, t)?;
     let value = |layer: Vec<u8>| layer.iter().fold(0, |v, &bit| 2 * v + bit as usize);
     let high = repaired_layer(&high_layer(bits), named, value(high_layer(a)))?;
     let low = repaired_layer(&low_layer(bits), named, value(low_layer(a)))?;
@@ -288,9 +301,9 @@ fn repaired(lay: &Layout, strand: &Strand, bits: &[u8], named: Named, q: usize) 
 }
 
 /// Step 2: the place of the separator with its j.
-fn separator(lay: &Layout, strand: &Strand, d: usize) -> Option<(usize, i32)> {
+fn separator(k: usize, strand: &Strand, d: usize) -> Option<(usize, i32)> {
     for j in [0, -1, 1] {
-        let q = (d + lay.k + 1).checked_add_signed(j as isize).unwrap();
+        let q = (d + k + 1).checked_add_signed(j as isize).unwrap();
         if strand.same(q, q + 1) && strand.same(q + 1, q + 2) {
             return Some((q, j));
         }
@@ -300,17 +313,17 @@ fn separator(lay: &Layout, strand: &Strand, d: usize) -> Option<(usize, i32)> {
 
 /// Steps 1 to 7: the message of the segment at p and the place of its separator.
 fn message_at(
-    lay: &Layout,
+    shape: &Shape,
     strand: &Strand,
     p: usize,
     first: bool,
 ) -> Result<(Vec<u8>, Option<usize>), u32> {
-    let (k, t) = (lay.k, lay.t);
+    let (k, t) = (shape.k, shape.t);
     // Step 1.
     let whole = first || strand.same(p, p + 1);
     let d = if first { p } else { p + 2 };
     // Step 2.
-    let found = separator(lay, strand, d);
+    let found = separator(k, strand, d);
     // Step 3.
     if !whole {
         let Some((q, _)) = found else {
@@ -345,31 +358,31 @@ fn message_at(
         return Ok((message.to_vec(), Some(q)));
     }
     let bits = strand.take(d, count).unwrap();
-    match repaired(lay, strand, bits, named, q + 3) {
+    match repaired(t, strand, bits, named, q + 3) {
         Some(message) => Ok((message, Some(q))),
         None => Err(7),
     }
 }
 
-/// Step 8: where the segment at p ends.
+/// Step 8: where the segment at p ends; the next one has a shape of its own.
 fn end_of(
-    lay: &Layout,
+    shape: &Shape,
+    next: &Shape,
     strand: &Strand,
     p: usize,
-    first: bool,
     message: &[u8],
     separator: Option<usize>,
 ) -> Option<usize> {
-    let a = syndrome(message, lay.t);
+    let a = syndrome(message, shape.t);
     if let Some(q) = separator {
         if strand.stands(q + 3, &a) {
-            return Some(q + 3 + lay.t);
+            return Some(q + 3 + shape.t);
         }
     }
-    let f = a[lay.t - 1];
+    let f = a[shape.t - 1];
     for e in [0, -1, 1] {
-        let end = (p + lay.n(first)).checked_add_signed(e).unwrap();
-        if strand.clean_at(lay, end, f) {
+        let end = (p + shape.n).checked_add_signed(e).unwrap();
+        if strand.clean_at(next, end, f) {
             return Some(end);
         }
     }
@@ -414,56 +427,53 @@ fn edit_between(written: &[u8], piece: &[u8]) -> Option<Edit> {
     None
 }
 
-/// Steps 1 to 9 for the segment at p, or the step that loses it.
+/// Steps 1 to 9 for the segment at p, or the step that loses it; the last has no next one.
 fn segment_at(
-    lay: &Layout,
+    shape: &Shape,
+    next: Option<&Shape>,
     strand: &Strand,
     p: usize,
     f: Option<u8>,
-    last: bool,
 ) -> Result<(Vec<u8>, usize, Edit), u32> {
-    let first = f.is_none();
-    let (message, separator) = message_at(lay, strand, p, first)?;
-    let end = if last {
-        strand.len()
-    } else {
-        end_of(lay, strand, p, first, &message, separator).ok_or(8u32)?
+    let (message, separator) = message_at(shape, strand, p, f.is_none())?;
+    let end = match next {
+        Some(next) => end_of(shape, next, strand, p, &message, separator).ok_or(8u32)?,
+        None => strand.len(),
     };
     let piece = &strand.symbols[p..end];
-    let edit = edit_between(&written(&message, f, lay.t), piece).ok_or(9u32)?;
+    let edit = edit_between(&written(&message, f, shape.t), piece).ok_or(9u32)?;
     Ok((message, end, edit))
 }
 
-/// Step 10: the start of the next clean segment.
-fn scan(lay: &Layout, strand: &Strand, p: usize, first: bool) -> Option<usize> {
+/// Step 10: the start of the next clean segment, sought about the end of the lost one.
+fn scan(lost: &Shape, next: &Shape, strand: &Strand, p: usize) -> Option<usize> {
     let mut moves = vec![0];
     for d in 1..=8 {
         moves.extend([-d, d]);
     }
     for d in moves {
-        let start = (p + lay.n(first)).checked_add_signed(d).unwrap();
+        let start = (p + lost.n).checked_add_signed(d).unwrap();
         if start <= p || start > strand.len() {
             continue;
         }
-        if strand.clean_at(lay, start, strand.symbols[start - 1]) {
+        if strand.clean_at(next, start, strand.symbols[start - 1]) {
             return Some(start);
         }
     }
     None
 }
 
-/// All l segments of a received strand.
+/// All segments of a received strand.
 fn all_segments(lay: &Layout, strand: &Strand) -> Vec<Segment> {
     let mut segments: Vec<Segment> = Vec::new();
     let mut p = 0;
     let mut f = None;
     let mut scanned = false;
-    while segments.len() < lay.l {
-        let first = segments.is_empty();
-        let last = segments.len() + 1 == lay.l;
-        match segment_at(lay, strand, p, f, last) {
+    while let Some(shape) = lay.shapes.get(segments.len()) {
+        let next = lay.shapes.get(segments.len() + 1);
+        match segment_at(shape, next, strand, p, f) {
             Ok((message, end, edit)) => {
-                f = syndrome(&message, lay.t).pop();
+                f = syndrome(&message, shape.t).pop();
                 segments.push(Segment {
                     start: p,
                     end,
@@ -475,19 +485,15 @@ fn all_segments(lay: &Layout, strand: &Strand) -> Vec<Segment> {
                 scanned = false;
             }
             Err(step) => {
-                let next = if last {
-                    None
-                } else {
-                    scan(lay, strand, p, first)
-                };
+                let found = next.and_then(|next| scan(shape, next, strand, p));
                 segments.push(Segment {
                     start: p,
-                    end: next.unwrap_or(strand.len()),
+                    end: found.unwrap_or(strand.len()),
                     scanned,
                     verdict: Verdict::Lost { step },
-                    message: vec![0; lay.k],
+                    message: vec![0; shape.k],
                 });
-                let Some(start) = next else {
+                let Some(start) = found else {
                     break;
                 };
                 p = start;
@@ -496,13 +502,13 @@ fn all_segments(lay: &Layout, strand: &Strand) -> Vec<Segment> {
             }
         }
     }
-    while segments.len() < lay.l {
+    while let Some(shape) = lay.shapes.get(segments.len()) {
         segments.push(Segment {
             start: strand.len(),
             end: strand.len(),
             scanned: false,
             verdict: Verdict::NoStart,
-            message: vec![0; lay.k],
+            message: vec![0; shape.k],
         });
     }
     segments
@@ -529,8 +535,8 @@ fn not_overlong(letters: &[u8]) -> Result<(), Refused> {
 }
 
 /// The segments of a strand with their verdicts.
-pub fn segments(k: u32, b: u32, letters: &[u8]) -> Result<Vec<Segment>, Refused> {
-    let lay = layout(k, b, None)?;
+pub fn segments(lengths: &[u16], b: u32, letters: &[u8]) -> Result<Vec<Segment>, Refused> {
+    let lay = layout(lengths, b, None)?;
     not_overlong(letters)?;
     let strand = strand_of(letters)?;
     Ok(all_segments(&lay, &strand))
@@ -547,13 +553,13 @@ pub fn mark(verdict: Verdict) -> u8 {
 
 /// Reads a strand; hands back the counts of clean, corrected and lost segments.
 pub fn read(
-    k: u32,
+    lengths: &[u16],
     b: u32,
     letters: &[u8],
     message: &mut [u8],
     sheet: &mut [u8],
 ) -> Result<[u32; 3], Refused> {
-    let lay = layout(k, b, None)?;
+    let lay = layout(lengths, b, None)?;
     not_overlong(letters)?;
     if message.len() < lay.b || sheet.len() < lay.sheet_length() {
         return refuse(5);
@@ -575,8 +581,11 @@ pub fn read(
 }
 
 /// The start and the length of one segment's piece; segments count from 1.
-pub fn piece(k: u32, b: u32, letters: &[u8], segment: u32) -> Result<(usize, usize), Refused> {
-    let segments = segments(k, b, letters)?;
+pub fn piece(
+    segments: &Result<Vec<Segment>, Refused>,
+    segment: u32,
+) -> Result<(usize, usize), Refused> {
+    let segments = segments.as_ref().map_err(|refused| *refused)?;
     if segment < 1 || segment as usize > segments.len() {
         return refuse(9);
     }
@@ -584,32 +593,108 @@ pub fn piece(k: u32, b: u32, letters: &[u8], segment: u32) -> Result<(usize, usi
     Ok((found.start, found.end - found.start))
 }
 
-/// Writes the label of k and B.
-pub fn write_label(k: u32, b: u32, out: &mut [u8]) -> Result<(), Refused> {
-    layout(k, b, None)?;
-    if out.len() < 4 {
-        return refuse(5);
-    }
-    let label = 1 << 28 | k << 21 | b << 13;
-    out[..4].copy_from_slice(&label.to_be_bytes());
-    Ok(())
+/// Whether all lengths are equal; one alone is.
+fn equal(lengths: &[u16]) -> bool {
+    lengths.iter().all(|k| *k == lengths[0])
 }
 
-/// Reads k and B from a label.
-pub fn read_label(bytes: &[u8]) -> Result<(u32, u32), Refused> {
-    let Some(four) = bytes.first_chunk::<4>() else {
+/// Bits put together, the most significant first.
+fn push_bits(bits: &mut Vec<bool>, number: u32, width: u32) {
+    bits.extend((0..width).rev().map(|bit| number >> bit & 1 == 1));
+}
+
+/// The number in so many bits from a place on.
+fn number_at(bits: &[bool], place: usize, width: usize) -> u32 {
+    let bits = &bits[place..place + width];
+    bits.iter().fold(0, |number, &bit| 2 * number + bit as u32)
+}
+
+fn bits_of_bytes(bytes: &[u8]) -> Vec<bool> {
+    let mut bits = Vec::new();
+    for &byte in bytes {
+        push_bits(&mut bits, byte as u32, 8);
+    }
+    bits
+}
+
+/// Writes the label of a layout and B; hands back its number of bytes.
+pub fn write_label(lengths: &[u16], b: u32, out: &mut [u8]) -> Result<usize, Refused> {
+    layout(lengths, b, None)?;
+    let mut bits = Vec::new();
+    if equal(lengths) {
+        push_bits(&mut bits, 1, 4);
+        push_bits(&mut bits, lengths[0] as u32, 7);
+        push_bits(&mut bits, b, 8);
+        push_bits(&mut bits, 0, 13);
+    } else {
+        push_bits(&mut bits, 2, 4);
+        push_bits(&mut bits, b, 8);
+        push_bits(&mut bits, lengths.len() as u32, 7);
+        for &k in lengths {
+            push_bits(&mut bits, k as u32, 7);
+        }
+        bits.resize(bits.len().next_multiple_of(8), false);
+    }
+    let label: Vec<u8> = bits.chunks(8).map(|x| number_at(x, 0, 8) as u8).collect();
+    let Some(front) = out.get_mut(..label.len()) else {
         return refuse(5);
     };
-    let label = u32::from_be_bytes(*four);
-    let edition = label >> 28;
-    let k = label >> 21 & 0x7F;
-    let b = label >> 13 & 0xFF;
-    let spare = label & 0x1FFF;
-    if edition != 1 || spare != 0 {
-        return refuse(8);
+    front.copy_from_slice(&label);
+    Ok(label.len())
+}
+
+/// The bytes that a label needs by its own edition and count; none where these are not there.
+pub fn label_needs(bytes: &[u8]) -> Option<usize> {
+    let edition = bytes.first()? >> 4;
+    if edition != 2 {
+        return Some(4);
     }
-    layout(k, b, None)?;
-    Ok((k, b))
+    let front = bits_of_bytes(bytes.get(..3)?);
+    let count = number_at(&front, 12, 7) as usize;
+    Some((4 + 8 + 7 + 7 * count).div_ceil(8))
+}
+
+/// Reads a layout and B from a label.
+pub fn read_label(bytes: &[u8]) -> Result<(Vec<u16>, u32), Refused> {
+    let label = label_needs(bytes).and_then(|needs| bytes.get(..needs));
+    let Some(label) = label else {
+        return refuse(5);
+    };
+    let bits = bits_of_bytes(label);
+    match number_at(&bits, 0, 4) {
+        1 => {
+            let k = number_at(&bits, 4, 7);
+            let b = number_at(&bits, 11, 8);
+            if bits[19..].contains(&true) {
+                return refuse(8);
+            }
+            if !(2..=64).contains(&k) {
+                return refuse(1);
+            }
+            if !(1..=128).contains(&b) {
+                return refuse(2);
+            }
+            if !(4 * b).is_multiple_of(k) || 4 * b / k > 64 {
+                return refuse(3);
+            }
+            Ok((vec![k as u16; (4 * b / k) as usize], b))
+        }
+        2 => {
+            let b = number_at(&bits, 4, 8);
+            let count = number_at(&bits, 12, 7) as usize;
+            let length = |i: usize| number_at(&bits, 19 + 7 * i, 7) as u16;
+            let lengths: Vec<u16> = (0..count).map(length).collect();
+            if bits[19 + 7 * count..].contains(&true) {
+                return refuse(8);
+            }
+            if (1..=64).contains(&count) && equal(&lengths) {
+                return refuse(8);
+            }
+            layout(&lengths, b, None)?;
+            Ok((lengths, b))
+        }
+        _ => refuse(8),
+    }
 }
 
 /// Adds the counts of one strand; all four counts change or none.

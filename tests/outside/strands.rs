@@ -49,9 +49,23 @@ impl Rng {
     pub fn bytes(&mut self, count: usize) -> Vec<u8> {
         (0..count).map(|_| self.next() as u8).collect()
     }
+
+    /// So many lengths from one up to, and with, another.
+    pub fn lengths(&mut self, count: usize, least: u16, most: u16) -> Vec<u16> {
+        let wide = (most - least + 1) as usize;
+        (0..count)
+            .map(|_| least + self.below(wide) as u16)
+            .collect()
+    }
+
+    pub fn shuffle<T>(&mut self, all: &mut [T]) {
+        for i in (1..all.len()).rev() {
+            all.swap(i, self.below(i + 1));
+        }
+    }
 }
 
-/// All pairs of k and B that are taken.
+/// All pairs of k and B whose equal lengths are taken.
 pub fn pairs() -> Vec<(u32, u32)> {
     let mut pairs = Vec::new();
     for k in 2..=64 {
@@ -64,7 +78,7 @@ pub fn pairs() -> Vec<(u32, u32)> {
     pairs
 }
 
-/// Layouts at the ends of the limits.
+/// Pairs at the ends of the limits.
 const EXTREME: [(u32, u32); 16] = [
     (2, 1),
     (2, 32),
@@ -84,38 +98,140 @@ const EXTREME: [(u32, u32); 16] = [
     (64, 128),
 ];
 
-/// A taken pair, with weight on small and on extreme ones.
-pub fn layout(rng: &mut Rng, pairs: &[(u32, u32)]) -> (u32, u32) {
-    match rng.below(8) {
+/// The equal lengths of k and B.
+pub fn equal_lengths(k: u32, b: u32) -> Vec<u16> {
+    vec![k as u16; (4 * b / k) as usize]
+}
+
+/// Equal lengths and their B, with weight on small and on extreme ones.
+fn equal(rng: &mut Rng, pairs: &[(u32, u32)]) -> (Vec<u16>, u32) {
+    let (k, b) = match rng.below(8) {
         0..=2 => loop {
             let (k, b) = rng.of(pairs);
             if k <= 10 && b <= 10 {
-                return (k, b);
+                break (k, b);
             }
         },
         3..=4 => rng.of(&EXTREME),
         5 => rng.of(&[(2, 1), (2, 2), (2, 3), (3, 3), (4, 2), (4, 3), (6, 3)]),
         _ => rng.of(pairs),
+    };
+    (equal_lengths(k, b), b)
+}
+
+/// Lengths at the ends of the limits, in any order: many short, one long, the most letters.
+fn extreme_lengths(rng: &mut Rng) -> Vec<u16> {
+    let parts: &[(usize, u16)] = match rng.below(8) {
+        0 => &[(63, 2), (1, 6)],
+        1 => &[(63, 2), (1, 62)],
+        2 => &[(48, 9), (16, 5)],
+        3 => &[(7, 64), (1, 62), (1, 2)],
+        4 => &[(2, 2), (1, 64)],
+        5 => &[(5, 2), (3, 64), (1, 2)],
+        6 => &[(32, 3), (32, 2)],
+        _ => &[(20, 2), (1, 64), (1, 63), (1, 33)],
+    };
+    let each = |&(count, length): &(usize, u16)| std::iter::repeat_n(length, count);
+    let mut lengths: Vec<u16> = parts.iter().flat_map(each).collect();
+    rng.shuffle(&mut lengths);
+    lengths
+}
+
+/// Lengths of some shape, whatever their sum.
+fn shaped_lengths(rng: &mut Rng) -> Vec<u16> {
+    let any = 1 + rng.below(64);
+    let count = rng.of(&[2, 3, 4, 5, 8, 12, 64, any]);
+    let (short, long) = (rng.lengths(count, 2, 8), rng.lengths(count, 9, 64));
+    let ends = 1 + rng.below(3);
+    let at_end = |i: usize| i < ends || i + ends >= count;
+    match rng.below(7) {
+        0 => rng.lengths(count, 2, 64),
+        1 => rng.lengths(count, 2, 12),
+        2 => short,
+        // On both sides of a change of t.
+        3 => (0..count)
+            .map(|_| rng.of(&[2, 3, 4, 5, 8, 9, 16, 17, 32, 33, 64]))
+            .collect(),
+        4 => (0..count)
+            .map(|i| if at_end(i) { short[i] } else { long[i] })
+            .collect(),
+        5 => (0..count)
+            .map(|i| if at_end(i) { long[i] } else { short[i] })
+            .collect(),
+        _ => (0..count)
+            .map(|i| if i % 2 == 0 { short[0] } else { long[0] })
+            .collect(),
+    }
+}
+
+/// Makes lengths sum to 4B: the last are dropped, or some made longer.
+fn fitted(rng: &mut Rng, mut lengths: Vec<u16>) -> (Vec<u16>, u32) {
+    while sum(&lengths) > 512 {
+        lengths.pop();
+    }
+    while !sum(&lengths).is_multiple_of(4) {
+        let place = rng.below(lengths.len());
+        lengths[place] = 64.min(lengths[place] + 1);
+    }
+    let b = sum(&lengths) / 4;
+    (lengths, b)
+}
+
+pub fn sum(lengths: &[u16]) -> u32 {
+    lengths.iter().map(|&k| k as u32).sum()
+}
+
+/// Lengths of their own for each segment, and their B; small and extreme ones often.
+fn mixed(rng: &mut Rng) -> (Vec<u16>, u32) {
+    let lengths = match rng.below(8) {
+        0..=2 => {
+            let count = 2 + rng.below(4);
+            rng.lengths(count, 2, 9)
+        }
+        3..=4 => extreme_lengths(rng),
+        5 => {
+            let small: [&[u16]; 6] = [&[2, 6], &[6, 2], &[3, 5], &[5, 3], &[2, 4, 2], &[3, 2, 3]];
+            rng.of(&small).to_vec()
+        }
+        _ => shaped_lengths(rng),
+    };
+    fitted(rng, lengths)
+}
+
+/// A taken layout and its B: equal lengths or mixed ones.
+pub fn layout(rng: &mut Rng, pairs: &[(u32, u32)]) -> (Vec<u16>, u32) {
+    if rng.once_in(2) {
+        equal(rng, pairs)
+    } else {
+        mixed(rng)
     }
 }
 
 /// The number of bits of 2k-1.
-pub fn syndrome_length(k: u32) -> usize {
-    (u32::BITS - (2 * k - 1).leading_zeros()) as usize
+pub fn syndrome_length(k: u16) -> usize {
+    (u32::BITS - (2 * k as u32 - 1).leading_zeros()) as usize
 }
 
 /// The lengths of the written segments.
-pub fn segment_lengths(k: u32, b: u32) -> Vec<usize> {
-    let n = k as usize + syndrome_length(k) + 6;
-    let l = (4 * b / k) as usize;
-    (0..l).map(|i| if i == 0 { n - 2 } else { n }).collect()
+pub fn segment_lengths(lengths: &[u16]) -> Vec<usize> {
+    let mut written = Vec::new();
+    for &k in lengths {
+        let marker = if written.is_empty() { 0 } else { 2 };
+        written.push(marker + k as usize + 4 + syndrome_length(k));
+    }
+    written
+}
+
+/// The letters of the written strand.
+pub fn strand_length(lengths: &[u16]) -> usize {
+    segment_lengths(lengths).iter().sum()
 }
 
 /// The written strand cut into its segments.
-pub fn cut(k: u32, b: u32, strand: &[u8]) -> Vec<Vec<u8>> {
+pub fn cut(lengths: &[u16], strand: &[u8]) -> Vec<Vec<u8>> {
     let mut rest = strand;
     let mut segments = Vec::new();
-    for n in segment_lengths(k, b) {
+    for n in segment_lengths(lengths) {
         let (segment, more) = rest.split_at(n);
         segments.push(segment.to_vec());
         rest = more;
@@ -216,20 +332,19 @@ pub fn change(rng: &mut Rng, segment: &[u8]) -> Change {
 }
 
 /// At most one edit in each segment, by the one-edit conditions.
-pub fn one_edit(rng: &mut Rng, k: u32, b: u32, strand: &[u8]) -> Vec<u8> {
-    let t = syndrome_length(k);
+pub fn one_edit(rng: &mut Rng, lengths: &[u16], strand: &[u8]) -> Vec<u8> {
     let rare = rng.of(&[1, 1, 2, 8]);
     let mut received = Vec::new();
     let mut spare_next = false;
-    for segment in cut(k, b, strand) {
+    for (segment, &k) in cut(lengths, strand).iter().zip(lengths) {
         if spare_next || !rng.once_in(rare) {
-            received.extend(&segment);
+            received.extend(segment);
             spare_next = false;
             continue;
         }
-        let change = change(rng, &segment);
-        spare_next = change.hits_tail(segment.len(), t);
-        received.extend(change.done(&segment));
+        let change = change(rng, segment);
+        spare_next = change.hits_tail(segment.len(), syndrome_length(k));
+        received.extend(change.done(segment));
     }
     received
 }
@@ -313,9 +428,9 @@ fn runs(rng: &mut Rng, count: usize) -> Vec<u8> {
 }
 
 /// A badly damaged strand of at most 2,048 letters.
-pub fn damaged(rng: &mut Rng, damage: Damage, k: u32, b: u32, strand: &[u8]) -> Vec<u8> {
+pub fn damaged(rng: &mut Rng, damage: Damage, lengths: &[u16], strand: &[u8]) -> Vec<u8> {
     let mut received = strand.to_vec();
-    let segments = cut(k, b, strand);
+    let segments = cut(lengths, strand);
     match damage {
         Damage::Crowded => {
             received.clear();
@@ -452,20 +567,37 @@ pub fn foreign(rng: &mut Rng, strand: &mut [u8]) {
     }
 }
 
-/// A k outside its limits.
-pub fn bad_k(rng: &mut Rng) -> u32 {
+/// A length outside its limits.
+pub fn bad_length(rng: &mut Rng) -> u16 {
     rng.of(&[
         0,
         1,
         65,
         66,
+        127,
         128,
-        1 << 16,
-        1 << 31,
-        (1 << 31) + 2,
-        u32::MAX - 1,
-        u32::MAX,
+        130,
+        256,
+        258,
+        1 << 15,
+        (1 << 15) + 2,
+        u16::MAX - 1,
+        u16::MAX,
     ])
+}
+
+/// Puts lengths outside the limits at random places.
+pub fn bad_lengths(rng: &mut Rng, lengths: &mut Vec<u16>) {
+    let last = lengths.len().saturating_sub(1);
+    for _ in 0..=rng.below(2) {
+        let bad = bad_length(rng);
+        let random = rng.below(last + 1);
+        let place = rng.of(&[0, last, random, random]);
+        match lengths.get_mut(place) {
+            Some(length) if rng.once_in(2) => *length = bad,
+            _ => lengths.insert(place, bad),
+        }
+    }
 }
 
 /// A B outside its limits.
@@ -484,19 +616,80 @@ pub fn bad_b(rng: &mut Rng) -> u32 {
     ])
 }
 
-/// A pair within the limits that is not a taken cut.
-pub fn bad_cut(rng: &mut Rng) -> (u32, u32) {
-    loop {
-        let k = if rng.once_in(3) {
-            2 + rng.below(7) as u32
-        } else {
-            2 + rng.below(63) as u32
-        };
-        let b = 1 + rng.below(128) as u32;
-        if !(4 * b).is_multiple_of(k) || 4 * b / k > 64 {
-            return (k, b);
+/// Lengths and a B within the limits that are no taken cut: none, too many, or another sum.
+pub fn bad_cut(rng: &mut Rng) -> (Vec<u16>, u32) {
+    let (mut lengths, mut b) = mixed(rng);
+    match rng.below(8) {
+        0 => lengths.clear(),
+        1 => {
+            let lengths_65 = rng.lengths(65, 2, 6);
+            (lengths, b) = fitted(rng, lengths_65);
+        }
+        2 => {
+            let count = rng.of(&[66, 127, 128, 129, 192, 320, 1100]);
+            lengths = rng.lengths(count, 2, 64);
+        }
+        3 => b = 1 + rng.below(128) as u32,
+        4 => b = rng.of(&[b + 1, b.max(2) - 1]).min(128),
+        5 => {
+            let place = rng.below(lengths.len());
+            let more = 1 + rng.below(3) as u16;
+            lengths[place] = rng.of(&[lengths[place] + more, lengths[place].max(2 + more) - more]);
+            lengths[place] = lengths[place].min(64);
+        }
+        6 => {
+            lengths.pop();
+        }
+        _ => {
+            // As many equal lengths as go into 4B, or one more.
+            let k = 2 + rng.below(63) as u16;
+            b = 1 + rng.below(128) as u32;
+            lengths = vec![k; (4 * b / k as u32) as usize + rng.below(2)];
         }
     }
+    if (1..=64).contains(&lengths.len()) && sum(&lengths) == 4 * b {
+        return bad_cut(rng);
+    }
+    (lengths, b)
+}
+
+/// The bytes of a label by its fields, each a number and its bits; zeros to the byte's end.
+fn packed(fields: &[(u32, u32)]) -> Vec<u8> {
+    let mut bytes = Vec::new();
+    let (mut bits, mut count) = (0u64, 0);
+    for &(number, width) in fields {
+        bits = bits << width | number as u64 & ((1 << width) - 1);
+        count += width;
+        while count >= 8 {
+            count -= 8;
+            bytes.push((bits >> count) as u8);
+        }
+    }
+    if count > 0 {
+        bytes.push((bits << (8 - count)) as u8);
+    }
+    bytes
+}
+
+/// A label of edition 1 for any numbers, as far as its fields hold them.
+pub fn label_1(k: u16, b: u32) -> Vec<u8> {
+    packed(&[(1, 4), (k as u32, 7), (b, 8), (0, 13)])
+}
+
+/// A label of edition 2 for any numbers, as far as its fields hold them.
+pub fn label_2(lengths: &[u16], b: u32) -> Vec<u8> {
+    let lengths = &lengths[..lengths.len().min(127)];
+    let mut fields = vec![(2, 4), (b, 8), (lengths.len() as u32, 7)];
+    fields.extend(lengths.iter().map(|&k| (k as u32, 7)));
+    packed(&fields)
+}
+
+/// The bytes of the label that is written for lengths.
+pub fn label_length(lengths: &[u16]) -> usize {
+    if lengths.windows(2).all(|two| two[0] == two[1]) {
+        return 4;
+    }
+    (19 + 7 * lengths.len()).div_ceil(8)
 }
 
 /// A count for a tally, often close to the limit.

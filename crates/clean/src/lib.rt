@@ -50,7 +50,7 @@ pub fn marker_stands(s: &[u8], p: usize, marked: bool, f: u8) -> bool
 }
 
 // A segment may end at the place: another is to follow it, or the n symbols of the strand end there.
-fn may_end(rest: &[usize], end: usize, n: usize) -> bool
+fn may_end(rest: &[u16], end: usize, n: usize) -> bool
     ensures { λ r. ⌜ r ≡ mayEnd (now (rest .entry)) end n ⌝ }
 {
     if rest.len() != 0 {
@@ -100,7 +100,7 @@ pub fn is_clean(
     d: usize,
     k: usize,
     sums: Summed,
-    rest: &[usize],
+    rest: &[u16],
 ) -> bool
     requires { ⌜ Received (now s) ⌝ }
     requires { ⌜ (f < 4) × Length k × (d ≡ p + dataAt marked) × (d + k ≤ length (now s)) ⌝ }

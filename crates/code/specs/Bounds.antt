@@ -1,4 +1,4 @@
--- The bounds of what the functions below the calls take; the limits of the calls are in Refusals.
+-- The bounds of what the functions below the calls take; the limits of the calls are in Limits.
 --   longest    the most symbols of a message
 --   widest     the most symbols of a syndrome
 --   reach      every place that is looked at is below it
@@ -7,12 +7,11 @@
 --   Length     a message's length
 --   Received   received symbols
 --   Start      where a segment starts, with the symbol before it
---   Equal      equal segments
-use Prim.Native.Nat.{ℕ, _*_, _≤_, _<_}
+use Prim.Native.Nat.{ℕ, _≤_, _<_}
 use mathlib.Core.List.{List}
 use lib.ListN.{length}
 use Rattle.code.specs.Symbols.{Below}
-use Rattle.code.specs.Limits.{leastLength, mostLength, mostBytes, mostSegments, mostLetters}
+use Rattle.code.specs.Limits.{leastLength, mostLetters}
 
 -- the most symbols of a message
 abbrev pub longest : ℕ
@@ -46,11 +45,3 @@ pub record Received (s : List ℕ) : Type 0 where
 pub record Start (s : List ℕ) (p f : ℕ) : Type 0 where
   pub inside : p ≤ length s
   pub symbol : f < 4
-
--- a strand within the limits may have l segments of k symbols
-pub record Equal (k l : ℕ) : Type 0 where
-  pub least-length : leastLength ≤ k
-  pub most-length : k ≤ mostLength
-  pub some-segments : 1 ≤ l
-  pub most-segments : l ≤ mostSegments
-  pub most-symbols : l * k ≤ 4 * mostBytes

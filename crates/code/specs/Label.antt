@@ -1,67 +1,171 @@
--- The label of a strand (SPECIFICATION.md, table 7): edition 4 bits, k 7, B 8, and 13 spare zero bits, most significant first.
---   labelNumber     the label as a number of 32 bits
---   labelBytes      the label's four bytes
---   numberOf4       the number that four bytes write
+-- The label of an order (SPECIFICATION.md, table 7): its fields in bits, the most significant first.
+--   inBits          numbers as a word of so many bits each
+--   fromBits        the numbers that such a word writes
+--   equal           lengths that are all the same
+--   edition1        the fields of a label for equal lengths
+--   edition2        the fields of a label that lists its lengths
+--   labelBytes      the label of an order
 --   labelWriteTest  the tests of a label that is written, 1, 2, 3 and 5
 --   labelCall       what writing a label answers, and the lent buffer afterwards
---   orderOf         what a label that is read answers, by the tests 5, 8, 1, 2 and 3
-use mathlib.Core.Bool.{false, not, _||_}
-use mathlib.Core.List.{List, [], _∷_}
-use Prim.Native.Nat.{ℕ, _+_, _*_, _/_, _%_, _^_}
+--   field           a number that stands in bytes
+--   needed          how many bytes a label needs
+--   orderOf         the order that a label carries
+--   labelReadTest   the tests of a label that is read, 5, 8, 1, 2 and 3
+--   labelled        an order by value
+--   labelRead       what a label that is read answers
+--   orderIn         the order that such an answer holds
+use mathlib.Core.Bool.{Bool, true, false, cond, not, _&&_, _||_}
+use mathlib.Core.List.{List, [], _∷_, _++_}
+use Prim.Native.Nat.{ℕ, zero, suc, _+_, _-_, _*_, _/_}
 use lib.Dec.{eqb, ltb}
-use lib.ListN.{length, getD}
+use lib.ListN.{length, getD, take, drop, replicate}
+use Rattle.code.specs.Limits.{mostSegments}
 use Rattle.code.specs.declared.Refusal.the-variants.{ShortBuffer, Label}
 use Rattle.code.specs.declared.Checked.{Checked}
 use Rattle.code.specs.declared.Checked.the-variants.{Fine, Refused}
-use Rattle.code.specs.declared.Order.{Order}
-use Rattle.code.specs.declared.Order.the-variants as O
-use Rattle.code.specs.Refusals.{refuse, unlessRefused, orderTest}
+use Rattle.code.specs.declared.Wrote.{Wrote}
+use Rattle.code.specs.declared.Wrote.the-variants as W
+use Rattle.code.specs.declared.Labelled.{Labelled}
+use Rattle.code.specs.Layers.{Word, bits, number}
+use Rattle.code.specs.Refusals.{refuse, unlessRefused, outside}
+use Rattle.code.specs.Order.{Order, order, orderTest}
 use Rattle.code.specs.Buffers.{overFront}
 
--- the label as a number: edition 1, k and B
-abbrev pub labelNumber : ℕ → ℕ → ℕ
-labelNumber k b = 1 * 2 ^ 28 + k * 2 ^ 21 + b * 2 ^ 13
+-- numbers in w bits each, one behind the other
+unfoldable pub inBits : ℕ → List ℕ → Word
+inBits w [] = []
+inBits w (x ∷ xs) = bits w x ++ inBits w xs
 
--- the four bytes of a number, most significant first
-abbrev pub fourBytes : ℕ → List ℕ
-fourBytes n = (n / 2 ^ 24 % 256) ∷ (n / 2 ^ 16 % 256) ∷ (n / 2 ^ 8 % 256) ∷ (n % 256) ∷ []
+-- the first n numbers of w bits each
+unfoldable pub fromBits : ℕ → ℕ → Word → List ℕ
+fromBits w zero bs = []
+fromBits w (suc n) bs = number (take w bs) ∷ fromBits w n (drop w bs)
 
--- the label's bytes
-abbrev pub labelBytes : ℕ → ℕ → List ℕ
-labelBytes k b = fourBytes (labelNumber k b)
+-- how many bytes n bits need
+abbrev pub bytesFor : ℕ → ℕ
+bytesFor n = (n + 7) / 8
 
--- the number that the first four bytes write
-abbrev pub numberOf4 : List ℕ → ℕ
-numberOf4 bs = getD bs 0 0 * 2 ^ 24 + getD bs 1 0 * 2 ^ 16 + getD bs 2 0 * 2 ^ 8 + getD bs 3 0
+-- the bytes of a word, zero bits filling the last
+abbrev pub inBytes : Word → List ℕ
+inBytes bs = fromBits 8 (bytesFor (length bs)) (bs ++ replicate 7 false)
 
--- the edition, k, B and the spare bits of a label
-abbrev pub editionOf : ℕ → ℕ
-editionOf n = n / 2 ^ 28
+-- every number of a list is k
+unfoldable pub allAre : ℕ → List ℕ → Bool
+allAre k [] = true
+allAre k (x ∷ xs) = eqb x k && allAre k xs
 
-abbrev pub kOf : ℕ → ℕ
-kOf n = n / 2 ^ 21 % 2 ^ 7
+-- 1 to 64 equal lengths
+abbrev pub equal : List ℕ → Bool
+equal ks = not (outside 1 mostSegments (length ks)) && allAre (getD ks 0 0) ks
 
-abbrev pub bOf : ℕ → ℕ
-bOf n = n / 2 ^ 13 % 2 ^ 8
+-- edition 1, for equal lengths: edition 4 bits, k 7, B 8, and 13 spare zero bits
+abbrev pub edition1 : ℕ → ℕ → Word
+edition1 k b = bits 4 1 ++ bits 7 k ++ bits 8 b ++ bits 13 0
 
-abbrev pub spareOf : ℕ → ℕ
-spareOf n = n % 2 ^ 13
+-- edition 2, for all other lengths: edition 4 bits, B 8, the number of lengths 7, and each length 7
+abbrev pub edition2 : List ℕ → ℕ → Word
+edition2 ks b = bits 4 2 ++ bits 8 b ++ bits 7 (length ks) ++ inBits 7 ks
 
--- the tests of a label for k and B written to a buffer of n bytes
-abbrev pub labelWriteTest : ℕ → ℕ → ℕ → Checked
-labelWriteTest k b n = orderTest k b false (refuse (ltb n 4) ShortBuffer Fine)
+-- the fields of an order's label
+abbrev pub labelBits : Order → Word
+labelBits o = cond (equal (o .lengths)) (edition1 (getD (o .lengths) 0 0) (o .b)) (edition2 (o .lengths) (o .b))
 
--- what writing the label of k and B to a buffer answers, and the buffer afterwards: unchanged where it is refused
-abbrev pub labelCall : ℕ → ℕ → List ℕ → Checked × List ℕ
-labelCall k b out = unlessRefused (labelWriteTest k b (length out)) (Fine, overFront (labelBytes k b) out) (λ r. (Refused r, out))
+-- the label of an order
+abbrev pub labelBytes : Order → List ℕ
+labelBytes o = inBytes (labelBits o)
+
+-- the tests of a label for an order written to a buffer of n bytes
+abbrev pub labelWriteTest : Order → ℕ → Checked
+labelWriteTest o n = orderTest o false (refuse (ltb n (length (labelBytes o))) ShortBuffer Fine)
+
+-- what writing the label of an order to a buffer answers, and the buffer afterwards: unchanged where it is refused
+abbrev pub labelCall : Order → List ℕ → Wrote × List ℕ
+labelCall o out =
+    unlessRefused (labelWriteTest o (length out))
+    (W.Bytes (length (labelBytes o)), overFront (labelBytes o) out)
+    (λ r. (W.Refused r, out))
+
+-- the number in w bits of bytes, behind the first i bits
+abbrev pub field : ℕ → ℕ → List ℕ → ℕ
+field i w bytes = number (take w (drop i (inBits 8 bytes)))
+
+-- the edition of a label
+abbrev pub editionOf : List ℕ → ℕ
+editionOf label = field 0 4 label
+
+-- k and B of a label of edition 1
+abbrev pub lengthIn : List ℕ → ℕ
+lengthIn label = field 4 7 label
+
+abbrev pub bytesIn1 : List ℕ → ℕ
+bytesIn1 label = field 11 8 label
+
+-- B and the number of lengths of a label of edition 2, and where its lengths end
+abbrev pub bytesIn2 : List ℕ → ℕ
+bytesIn2 label = field 4 8 label
+
+abbrev pub countIn : List ℕ → ℕ
+countIn label = field 12 7 label
+
+abbrev pub endOfLengths : List ℕ → ℕ
+endOfLengths label = 19 + 7 * countIn label
+
+-- the lengths that a label of edition 2 lists
+abbrev pub lengthsIn : List ℕ → List ℕ
+lengthsIn label = fromBits 7 (countIn label) (drop 19 (inBits 8 label))
+
+-- how many bytes a label needs: those of its own edition, an unknown edition four
+abbrev pub needed : List ℕ → ℕ
+needed label = cond (eqb (editionOf label) 2) (bytesFor (endOfLengths label)) 4
+
+-- k as often as it goes into 4B, and once at least
+abbrev pub repeated : ℕ → ℕ → List ℕ
+repeated k b = replicate (1 + (4 * b / k - 1)) k
+
+-- the order that a label carries, of edition 2 or 1
+abbrev pub orderOf : List ℕ → Order
+orderOf label =
+    cond (eqb (editionOf label) 2)
+    (order (lengthsIn label) (bytesIn2 label))
+    (order (repeated (lengthIn label) (bytesIn1 label)) (bytesIn1 label))
+
+-- a label of edition 1 has a spare bit set
+abbrev pub bad1 : List ℕ → Bool
+bad1 label = not (eqb (field 19 13 label) 0)
+
+-- a label of edition 2 has a bit set behind its last length, or lists equal lengths
+abbrev pub bad2 : List ℕ → Bool
+bad2 label = not (eqb (field (endOfLengths label) (8 * needed label - endOfLengths label) label) 0) || equal (lengthsIn label)
+
+-- a label is of no known edition, or not as its edition lays it out
+abbrev pub badLabel : List ℕ → Bool
+badLabel label = cond (eqb (editionOf label) 2) (bad2 label) (not (eqb (editionOf label) 1) || bad1 label)
 
 -- the tests of a label that is read
 abbrev pub labelReadTest : List ℕ → Checked
-labelReadTest bs =
-    refuse (ltb (length bs) 4) ShortBuffer
-    (refuse (not (eqb (editionOf (numberOf4 bs)) 1) || not (eqb (spareOf (numberOf4 bs)) 0)) Label
-    (orderTest (kOf (numberOf4 bs)) (bOf (numberOf4 bs)) false Fine))
+labelReadTest label =
+    refuse (ltb (length label) (needed label)) ShortBuffer
+    (refuse (badLabel label) Label
+    (orderTest (orderOf label) false Fine))
+
+-- an order by value: zeros stand behind its lengths
+abbrev pub labelled : Checked → Order → Labelled
+labelled tested o =
+    record {
+      tested = tested;
+      b = o .b;
+      count = length (o .lengths);
+      lengths = o .lengths ++ replicate (mostSegments - length (o .lengths)) 0;
+    }
+
+-- the answer to an order that is tested: where it is refused there are no lengths and no bytes
+abbrev pub answerTo : Checked → Order → Labelled
+answerTo tested o = unlessRefused tested (labelled Fine o) (λ r. labelled (Refused r) (order [] 0))
 
 -- what a label that is read answers
-abbrev pub orderOf : List ℕ → Order
-orderOf bs = unlessRefused (labelReadTest bs) (O.Is (kOf (numberOf4 bs)) (bOf (numberOf4 bs))) O.Refused
+abbrev pub labelRead : List ℕ → Labelled
+labelRead label = answerTo (labelReadTest label) (orderOf label)
+
+-- the order that an answer holds
+abbrev pub orderIn : Labelled → Order
+orderIn l = order (take (l .count) (l .lengths)) (l .b)

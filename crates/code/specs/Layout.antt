@@ -6,11 +6,10 @@
 --   written   the segments of messages, one after the other
 --   strand    the written strand
 --   extent    the length of a written strand
---   layoutOf  the layout of l equal lengths
 use mathlib.Core.Bool.{Bool, true, false}
 use mathlib.Core.List.{List, [], _∷_, _++_}
-use Prim.Native.Nat.{ℕ, _+_, _*_, _/_, _≤_}
-use lib.ListN.{take, drop, replicate}
+use Prim.Native.Nat.{ℕ, _+_, _≤_}
+use lib.ListN.{take, drop}
 use Rattle.code.specs.Limits.{leastLength}
 use Rattle.code.specs.Segment.{segment, lastOf, size}
 
@@ -47,7 +46,3 @@ strand ms = written false 0 ms
 unfoldable pub extent : Bool → List ℕ → ℕ
 extent marked [] = 0
 extent marked (k ∷ ks) = size marked k + extent true ks
-
--- B bytes, four symbols each, cut into equal lengths k
-abbrev pub layoutOf : ℕ → ℕ → List ℕ
-layoutOf k b = replicate (4 * b / k) k

@@ -7,6 +7,7 @@ pub mod Segment
 pub mod Limits
 pub mod Refusals
 pub mod Layout
+pub mod Order
 pub mod Bounds
 pub mod Verdicts
 pub mod Writing

@@ -1,5 +1,5 @@
 -- The limits of an order and of a received strand (SPECIFICATION.md, table 2).
---   leastLength, mostLength    k
+--   leastLength, mostLength    a length k
 --   mostBytes                  B; the least is 1
 --   mostSegments               l
 --   mostLetters, mostWritten   a received strand, a written one
@@ -27,4 +27,4 @@ mostLetters = 2048
 
 -- the most letters of a written strand
 abbrev pub mostWritten : ℕ
-mostWritten = 1150
+mostWritten = 1198

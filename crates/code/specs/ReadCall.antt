@@ -5,8 +5,8 @@
 --   shortBuffers  test 5 of a reading
 --   readTest      the tests 1 to 6 of a reading
 --   pieceTest     the tests of a piece call
---   outcomesOf    the outcomes of letters, for k and B
---   marksFor      the marks of letters, for k and B
+--   outcomesOf    the outcomes of letters, for an order
+--   marksFor      the marks of letters, for an order
 --   readAs        a reading's answer and its buffers, from the outcomes
 --   readCall      the reader's answer, and both lent buffers afterwards
 --   pieceStart    where a piece starts
@@ -29,9 +29,10 @@ use Rattle.code.specs.declared.Counted.the-variants as N
 use Rattle.code.specs.declared.Located.{Located}
 use Rattle.code.specs.declared.Located.the-variants as L
 use Rattle.code.specs.Symbols.{legible, decoded, bytes}
-use Rattle.code.specs.Layout.{sum, layoutOf}
+use Rattle.code.specs.Layout.{sum}
 use Rattle.code.specs.Limits.{mostLetters}
-use Rattle.code.specs.Refusals.{numberOf, placeOf, refuse, unlessRefused, outside, orderTest}
+use Rattle.code.specs.Refusals.{numberOf, placeOf, refuse, unlessRefused, outside}
+use Rattle.code.specs.Order.{Order, orderTest}
 use Rattle.code.specs.Buffers.{overFront}
 use Rattle.code.specs.Sheet.{marksOf, sheetOf, countsOf, sheetBytes}
 use Rattle.code.specs.Strands.{Outcome, outcomes, messagesOf, verdictsOf}
@@ -45,35 +46,35 @@ foreignTest (D.Foreign i) next = Refused (ForeignLetter i)
 abbrev pub overlong : ℕ → Bool
 overlong n = ltb mostLetters n
 
--- tests 1 to 4 of n letters received for k and B, and then what follows
-abbrev pub receivedTest : ℕ → ℕ → ℕ → Checked → Checked
-receivedTest k b n next = orderTest k b false (refuse (overlong n) Overlong next)
+-- tests 1 to 4 of n letters received for an order, and then what follows
+abbrev pub receivedTest : Order → ℕ → Checked → Checked
+receivedTest o n next = orderTest o false (refuse (overlong n) Overlong next)
 
--- a message buffer of n bytes or a sheet buffer of m bytes is too short for k and B
-abbrev pub shortBuffers : ℕ → ℕ → ℕ → ℕ → Bool
-shortBuffers k b n m = ltb n b || ltb m (sheetBytes (length (layoutOf k b)))
+-- a message buffer of n bytes or a sheet buffer of m bytes is too short for an order
+abbrev pub shortBuffers : Order → ℕ → ℕ → Bool
+shortBuffers o n m = ltb n (o .b) || ltb m (sheetBytes (length (o .lengths)))
 
--- the tests of a reading: letters cs for k and B, a message buffer of n bytes and a sheet buffer of m bytes
-abbrev pub readTest : ℕ → ℕ → List ℕ → ℕ → ℕ → Checked
-readTest k b cs n m =
-    receivedTest k b (length cs)
-    (refuse (shortBuffers k b n m) ShortBuffer
+-- the tests of a reading: letters cs for an order, a message buffer of n bytes and a sheet buffer of m bytes
+abbrev pub readTest : Order → List ℕ → ℕ → ℕ → Checked
+readTest o cs n m =
+    receivedTest o (length cs)
+    (refuse (shortBuffers o n m) ShortBuffer
     (foreignTest (decoded cs) Fine))
 
--- the tests of a piece call: letters cs for k and B, and the segment's number i, from 1
-abbrev pub pieceTest : ℕ → ℕ → List ℕ → ℕ → Checked
-pieceTest k b cs i =
-    receivedTest k b (length cs)
+-- the tests of a piece call: letters cs for an order, and the segment's number i, from 1
+abbrev pub pieceTest : Order → List ℕ → ℕ → Checked
+pieceTest o cs i =
+    receivedTest o (length cs)
     (foreignTest (decoded cs)
-    (refuse (outside 1 (length (layoutOf k b)) i) NoSuchSegment Fine))
+    (refuse (outside 1 (length (o .lengths)) i) NoSuchSegment Fine))
 
--- the outcomes of the segments of letters, for k and B
-abbrev pub outcomesOf : ℕ → ℕ → List ℕ → List Outcome
-outcomesOf k b cs = outcomes (layoutOf k b) (legible cs)
+-- the outcomes of the segments of letters, for an order
+abbrev pub outcomesOf : Order → List ℕ → List Outcome
+outcomesOf o cs = outcomes (o .lengths) (legible cs)
 
--- the marks of the segments of letters, for k and B
-abbrev pub marksFor : ℕ → ℕ → List ℕ → List ℕ
-marksFor k b cs = marksOf (verdictsOf (outcomesOf k b cs))
+-- the marks of the segments of letters, for an order
+abbrev pub marksFor : Order → List ℕ → List ℕ
+marksFor o cs = marksOf (verdictsOf (outcomesOf o cs))
 
 -- what a reading that is taken answers, and leaves in the buffers lent for the message and the sheet
 abbrev pub readAs : List Outcome → List ℕ → List ℕ → Counted × (List ℕ × List ℕ)
@@ -81,11 +82,11 @@ readAs os message sheet =
     let marks = marksOf (verdictsOf os) in
     (countsOf marks, (overFront (bytes (messagesOf os)) message, overFront (sheetOf marks) sheet))
 
--- what reading letters cs for k and B answers, and the buffers for message and sheet afterwards: unchanged where it is refused
-abbrev pub readCall : ℕ → ℕ → List ℕ → List ℕ → List ℕ → Counted × (List ℕ × List ℕ)
-readCall k b cs message sheet =
-    unlessRefused (readTest k b cs (length message) (length sheet))
-    (readAs (outcomesOf k b cs) message sheet)
+-- what reading letters cs for an order answers, and the buffers for message and sheet afterwards: unchanged where it is refused
+abbrev pub readCall : Order → List ℕ → List ℕ → List ℕ → Counted × (List ℕ × List ℕ)
+readCall o cs message sheet =
+    unlessRefused (readTest o cs (length message) (length sheet))
+    (readAs (outcomesOf o cs) message sheet)
     (λ r. (N.Refused r, (message, sheet)))
 
 -- the pieces of outcomes
@@ -104,11 +105,11 @@ pieceLength os i = getD (map length (piecesOf os)) i 0
 abbrev pub pieceOf : List Outcome → List ℕ → ℕ → List ℕ
 pieceOf os cs i = take (pieceLength os (i - 1)) (drop (pieceStart os (i - 1)) cs)
 
--- the piece of segment i of letters cs for k and B, with 0 and 0; or an empty part, with the refusal's number and place
-abbrev pub pieceCall : ℕ → ℕ → List ℕ → ℕ → List ℕ × (ℕ × ℕ)
-pieceCall k b cs i =
-    unlessRefused (pieceTest k b cs i)
-    (pieceOf (outcomesOf k b cs) cs i, (0, 0))
+-- the piece of segment i of letters cs for an order, with 0 and 0; or an empty part, with the refusal's number and place
+abbrev pub pieceCall : Order → List ℕ → ℕ → List ℕ × (ℕ × ℕ)
+pieceCall o cs i =
+    unlessRefused (pieceTest o cs i)
+    (pieceOf (outcomesOf o cs) cs i, (0, 0))
     (λ r. ([], (numberOf r, placeOf r)))
 
 -- where the piece behind the first i pieces stands
@@ -116,5 +117,5 @@ abbrev pub locatedAs : List Outcome → ℕ → Located
 locatedAs os i = L.At (pieceStart os i) (pieceStart os i + pieceLength os i)
 
 -- where the piece of segment i stands, or the refusal
-abbrev pub locateCall : ℕ → ℕ → List ℕ → ℕ → Located
-locateCall k b cs i = unlessRefused (pieceTest k b cs i) (locatedAs (outcomesOf k b cs) (i - 1)) L.Refused
+abbrev pub locateCall : Order → List ℕ → ℕ → Located
+locateCall o cs i = unlessRefused (pieceTest o cs i) (locatedAs (outcomesOf o cs) (i - 1)) L.Refused

@@ -1,14 +1,13 @@
--- What is turned down (SPECIFICATION.md, table 4), and the tests of an order.
+-- What is turned down (SPECIFICATION.md, table 4).
 --   numberOf        the paper's number of a refusal
 --   placeOf         the place that a refusal names
 --   testNumber      the number of a test's outcome
 --   refuse          a test before others
 --   unlessRefused   what is answered after the tests
---   orderTest       the tests 1, 2 and 3 of k and B
-use mathlib.Core.Bool.{Bool, true, false, not, _||_}
-use Prim.Native.Nat.{ℕ, _*_, _/_, _%_}
-use lib.Dec.{eqb, ltb}
-use Rattle.code.specs.Limits.{leastLength, mostLength, mostBytes, mostSegments}
+--   outside         a number is outside its limits
+use mathlib.Core.Bool.{Bool, true, false, _||_}
+use Prim.Native.Nat.{ℕ}
+use lib.Dec.{ltb}
 use Rattle.code.specs.declared.Refusal.{Refusal}
 use Rattle.code.specs.declared.Refusal.the-variants.{SegmentLength, MessageSize, Cut, Overlong, ShortBuffer, ForeignLetter, TallyFull, Label, NoSuchSegment}
 use Rattle.code.specs.declared.Checked.{Checked}
@@ -56,14 +55,3 @@ unlessRefused (Refused r) taken refused = refused r
 -- x is outside low .. high
 abbrev pub outside : ℕ → ℕ → ℕ → Bool
 outside low high x = ltb x low || ltb high x
-
--- 4B is not a multiple of k, or makes more segments than a strand has
-abbrev pub uneven : ℕ → ℕ → Bool
-uneven k b = not (eqb (4 * b % k) 0) || ltb mostSegments (4 * b / k)
-
--- tests 1, 2 and 3, where `other` says that the message's length is not B, and then what follows
-abbrev pub orderTest : ℕ → ℕ → Bool → Checked → Checked
-orderTest k b other next =
-    refuse (outside leastLength mostLength k) SegmentLength
-    (refuse (outside 1 mostBytes b || other) MessageSize
-    (refuse (uneven k b) Cut next))

@@ -4,14 +4,16 @@ use mathlib.Core.List.{List, [], _∷_, List·Memᴰ, List·Memᴰ·head, List·
 use mathlib.Core.Path.{subst, sym}
 use Prim.Native.Nat.{ℕ}
 use lib.Dec.{T, eqb}
+use lib.ListN.{replicate}
 use Rattle.code.specs.Ascii.{ascii, digits}
 use Rattle.code.specs.Symbols.{bytes, symbols, legible}
 use Rattle.code.specs.Layers.{bits, number, width, syndrome, pair, ones, sumOfPlaces, sumFrom, firstPower}
 use Rattle.code.specs.Repair.{flips, lefts, puts, linked, firstWith, repair}
 use Rattle.code.specs.Segment.{total, check, sep, syndromeOf, separator, marker, block, segment, lastOf, size}
-use Rattle.code.specs.Layout.{cut, joined, written, extent, layoutOf}
+use Rattle.code.specs.Layout.{cut, joined, written, extent}
+use Rattle.code.specs.Order.{order}
 use Rattle.code.specs.Writing.{strandOf}
-use Rattle.code.specs.Label.{labelBytes}
+use Rattle.code.specs.Label.{inBits, fromBits, allAre, labelBytes}
 use Rattle.code.specs.Edits.{same, firstEdit, judged}
 use Rattle.code.specs.Reading.{isPrefix, twoEqual, threeEqual, separatorAt, checkAgrees, syndromeAgrees, repaired, messageAt, messageWithout, readMessage, clean, endOf, readSegment}
 use Rattle.code.specs.Sheet.{marksOf, sheetOf}
@@ -23,21 +25,20 @@ pub data Row : Type 0 where
   segments : List (List ℕ) → List ℕ → Row
   -- Sep(a, b, c) is s
   separates : ℕ → ℕ → ℕ → ℕ → Row
-  -- the letters of the strand of some bytes, for k and B
-  writes : ℕ → ℕ → List ℕ → List ℕ → Row
-  -- the bytes and the sheet of a strand's letters, for k and B
-  reads : ℕ → ℕ → List ℕ → List ℕ → List ℕ → Row
-  -- the label of k and B
-  labels : ℕ → ℕ → List ℕ → Row
+  -- the letters of the strand of some bytes on a layout
+  writes : List ℕ → List ℕ → List ℕ → Row
+  -- the bytes and the sheet of a strand's letters on a layout
+  reads : List ℕ → List ℕ → List ℕ → List ℕ → Row
+  -- the label of a layout and B
+  labels : List ℕ → ℕ → List ℕ → Row
 
 -- the row is right
 unfoldable pub holds : Row → Bool
 holds (segments ms s) = same (written false 0 ms) s
 holds (separates a b c s) = eqb (sep a b c) s
-holds (writes k b bs s) = same (strandOf (layoutOf k b) bs) s
-holds (reads k b s bs sheet) =
-    same (bytes (messagesOf (outcomes (layoutOf k b) (legible s)))) bs && same (sheetOf (marksOf (verdictsOf (outcomes (layoutOf k b) (legible s))))) sheet
-holds (labels k b bs) = same (labelBytes k b) bs
+holds (writes ks bs s) = same (strandOf ks bs) s
+holds (reads ks s bs sheet) = same (bytes (messagesOf (outcomes ks (legible s)))) bs && same (sheetOf (marksOf (verdictsOf (outcomes ks (legible s))))) sheet
+holds (labels ks b bs) = same (labelBytes (order ks b)) bs
 
 abbrev pub rows : List Row
 rows =
@@ -45,13 +46,13 @@ rows =
     ∷ separates 0 1 2 3
     ∷ separates 3 2 1 0
     ∷ separates 3 0 1 2
-    ∷ writes 4 1 (0x1B ∷ []) (ascii "ATCGCAAAGGC")
-    ∷ writes 2 1 (0x1B ∷ []) (ascii "ATTGGGTATTCGTAAAGC")
-    ∷ reads 2 1 (ascii "ATGGGTATTCGTAAAGC") (0x1B ∷ []) (0x40 ∷ [])
-    ∷ reads 2 1 (ascii "ATTGGGTCTTCGTAAAGC") (0x1B ∷ []) (0x40 ∷ [])
-    ∷ reads 2 1 (ascii "ATTGGGTCATCGTAAAGC") (0x00 ∷ []) (0xA0 ∷ [])
-    ∷ reads 2 1 [] (0x00 ∷ []) (0xA0 ∷ [])
-    ∷ labels 16 32 (0x12 ∷ 0x04 ∷ 0x00 ∷ 0x00 ∷ [])
+    ∷ writes (4 ∷ []) (0x1B ∷ []) (ascii "ATCGCAAAGGC")
+    ∷ writes (2 ∷ 2 ∷ []) (0x1B ∷ []) (ascii "ATTGGGTATTCGTAAAGC")
+    ∷ reads (2 ∷ 2 ∷ []) (ascii "ATGGGTATTCGTAAAGC") (0x1B ∷ []) (0x40 ∷ [])
+    ∷ reads (2 ∷ 2 ∷ []) (ascii "ATTGGGTCTTCGTAAAGC") (0x1B ∷ []) (0x40 ∷ [])
+    ∷ reads (2 ∷ 2 ∷ []) (ascii "ATTGGGTCATCGTAAAGC") (0x00 ∷ []) (0xA0 ∷ [])
+    ∷ reads (2 ∷ 2 ∷ []) [] (0x00 ∷ []) (0xA0 ∷ [])
+    ∷ labels (replicate 8 16) 32 (0x12 ∷ 0x04 ∷ 0x00 ∷ 0x00 ∷ [])
     ∷ []
 
 every : List Row → Bool
@@ -69,5 +70,5 @@ of-every (x ∷ rs) t r (List·Memᴰ·tail m) = of-every rs (both (holds x) (ev
 
 -- every row is right
 pub rows-hold : (r : Row) → List·Memᴰ r rows → T (holds r)
-unfolding every holds bytes symbols legible bits number width syndrome pair ones sumOfPlaces sumFrom firstPower flips lefts puts linked firstWith repair total check sep syndromeOf separator marker block segment lastOf size cut joined written extent strandOf same firstEdit judged isPrefix twoEqual threeEqual separatorAt checkAgrees syndromeAgrees repaired messageAt messageWithout readMessage clean endOf readSegment above pairs firstStart scan reading
+unfolding every holds inBits fromBits allAre bytes symbols legible bits number width syndrome pair ones sumOfPlaces sumFrom firstPower flips lefts puts linked firstWith repair total check sep syndromeOf separator marker block segment lastOf size cut joined written extent strandOf same firstEdit judged isPrefix twoEqual threeEqual separatorAt checkAgrees syndromeAgrees repaired messageAt messageWithout readMessage clean endOf readSegment above pairs firstStart scan reading
 rows-hold = of-every rows tt

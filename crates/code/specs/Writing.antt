@@ -13,21 +13,22 @@ use Rattle.code.specs.declared.Checked.the-variants.{Fine}
 use Rattle.code.specs.declared.Wrote.{Wrote}
 use Rattle.code.specs.declared.Wrote.the-variants as W
 use Rattle.code.specs.Symbols.{letters, symbols}
-use Rattle.code.specs.Layout.{cut, strand, extent, layoutOf}
-use Rattle.code.specs.Refusals.{refuse, unlessRefused, orderTest}
+use Rattle.code.specs.Layout.{cut, strand, extent}
+use Rattle.code.specs.Refusals.{refuse, unlessRefused}
+use Rattle.code.specs.Order.{Order, orderTest}
 use Rattle.code.specs.Buffers.{overFront}
 
 -- the letters of the strand that carries bytes on a layout
 unfoldable pub strandOf : List ℕ → List ℕ → List ℕ
 strandOf ks bs = letters (strand (cut ks (symbols bs)))
 
--- the tests of an order: bytes bs for k and B, and a buffer of n bytes
-abbrev pub writeTest : ℕ → ℕ → List ℕ → ℕ → Checked
-writeTest k b bs n = orderTest k b (not (eqb (length bs) b)) (refuse (ltb n (extent false (layoutOf k b))) ShortBuffer Fine)
+-- the tests of a writing: bytes bs for an order, and a buffer of n bytes
+abbrev pub writeTest : Order → List ℕ → ℕ → Checked
+writeTest o bs n = orderTest o (not (eqb (length bs) (o .b))) (refuse (ltb n (extent false (o .lengths))) ShortBuffer Fine)
 
--- what writing bytes bs for k and B to a buffer answers, and the buffer afterwards: unchanged where it is refused
-abbrev pub writeCall : ℕ → ℕ → List ℕ → List ℕ → Wrote × List ℕ
-writeCall k b bs out =
-    unlessRefused (writeTest k b bs (length out))
-    (W.Letters (extent false (layoutOf k b)), overFront (strandOf (layoutOf k b) bs) out)
+-- what writing bytes bs for an order to a buffer answers, and the buffer afterwards: unchanged where it is refused
+abbrev pub writeCall : Order → List ℕ → List ℕ → Wrote × List ℕ
+writeCall o bs out =
+    unlessRefused (writeTest o bs (length out))
+    (W.Bytes (extent false (o .lengths)), overFront (strandOf (o .lengths) bs) out)
     (λ r. (W.Refused r, out))

@@ -9,7 +9,10 @@ pub mod LinkedPlaces
 pub mod Segment
 pub mod Refusals
 pub mod Layout
+pub mod Order
 pub mod Writing
+pub mod Bits
+pub mod LabelFields
 pub mod Label
 pub mod Tallies
 pub mod Edits

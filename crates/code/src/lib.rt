@@ -44,9 +44,9 @@ pub enum Checked {
     Refused(Refusal),
 }
 
-// What the writer answers: the number of letters written.
+// What a writing answers: how many bytes were written to the front of the lent buffer.
 pub enum Wrote {
-    Letters(usize),
+    Bytes(usize),
     Refused(Refusal),
 }
 
@@ -62,10 +62,12 @@ pub enum Located {
     Refused(Refusal),
 }
 
-// What reading a label answers: k and B.
-pub enum Order {
-    Is(u32, u32),
-    Refused(Refusal),
+// What reading a label answers: whether it is taken, B, and the layout, which is the first `count` of `lengths`.
+pub struct Labelled {
+    pub tested: Checked,
+    pub b: u32,
+    pub count: usize,
+    pub lengths: [u16; 64],
 }
 
 // How many strands were read, and their segments by mark.

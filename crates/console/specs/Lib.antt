@@ -1,4 +1,4 @@
 pub mod Input
-pub mod LabelLine
 pub mod RefusedLine
+pub mod LabelLine
 pub mod laws

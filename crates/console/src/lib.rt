@@ -1,11 +1,12 @@
 // What both programs share: standard input and output, the label's line, the line for a refusal, and what is said to a wrong use.
-use code::Order;
+use code::Labelled;
 use code::Refusal;
 use libc::STDERR_FILENO;
 use libc::STDIN_FILENO;
 use libc::STDOUT_FILENO;
 use text::decimal::put_named;
 use text::hex::Hex;
+use text::lines::front;
 use text::put::put;
 ghost use mathlib.Core.Path.{_≡_};
 ghost use Prim.Native.Nat.{_+_, _≤_};
@@ -77,16 +78,20 @@ pub fn put_refused(out: &mut [u8], at: usize, r: Refusal) -> usize
     put(out, end, b"\n")
 }
 
-// k and B of the line that holds the label: four bytes, two digits each, or refused 8.
-pub fn order_of(line: &[u8]) -> Order
+// The most bytes that a label needs: one that lists 127 lengths.
+const MOST_LABEL: usize = 114;
+
+// The order of the line that holds the label: exactly the bytes that the label needs, two digits each, or refused 8.
+pub fn order_of(line: &[u8]) -> Labelled
     ensures { λ r. ⌜ r ≡ orderLine (now (line .entry)) ⌝ }
 {
-    let mut label = [0u8; 4];
-    if line.len() != 8 {
-        return Order::Refused(Refusal::Label);
-    }
-    let Hex::Bytes(_) = text::hex::decode(line, &mut label) else {
-        return Order::Refused(Refusal::Label);
+    let mut label = [0u8; MOST_LABEL];
+    let Hex::Bytes(n) = text::hex::decode(line, &mut label) else {
+        return label::refused(Refusal::Label);
     };
-    label::read(&label)
+    let bytes = front(&label, n);
+    if !label::is_whole(bytes) {
+        return label::refused(Refusal::Label);
+    }
+    label::read(bytes)
 }

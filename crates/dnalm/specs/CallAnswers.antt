@@ -3,7 +3,7 @@
 --   fromWrote     the answer of a writing
 --   fromCounted   the answer of a reading
 --   fromLocated   the answer of a piece call
---   fromOrder     the answer of a label that is read
+--   fromLabelled  the answer of a label that is read
 --   asTally       a tally as the tally call takes it
 --   fromTallied   the answer of adding to a tally
 use Prim.Native.Nat.{_-_}
@@ -13,12 +13,11 @@ use Rattle.code.specs.declared.Counted.{Counted}
 use Rattle.code.specs.declared.Counted.the-variants as N
 use Rattle.code.specs.declared.Located.{Located}
 use Rattle.code.specs.declared.Located.the-variants as L
-use Rattle.code.specs.declared.Order as code-order
-use Rattle.code.specs.declared.Order.the-variants as O
+use Rattle.code.specs.declared.Labelled.{Labelled}
 use Rattle.code.specs.declared.Tally as code-tally
 use Rattle.code.specs.declared.Tallied as code-tallied
 use Rattle.code.specs.declared.Tallied.the-variants as T
-use Rattle.code.specs.Refusals.{numberOf, placeOf}
+use Rattle.code.specs.Refusals.{numberOf, placeOf, testNumber}
 use Rattle.dnalm.specs.declared.Written.{Written}
 use Rattle.dnalm.specs.declared.Counts.{Counts}
 use Rattle.dnalm.specs.declared.Piece.{Piece}
@@ -32,8 +31,8 @@ answered tell result = (tell (result .0), result .1)
 
 -- the answer of a writing
 abbrev pub fromWrote : Wrote → Written
-fromWrote (W.Letters n) = record { refusal = 0; place = 0; letters = n }
-fromWrote (W.Refused r) = record { refusal = numberOf r; place = placeOf r; letters = 0 }
+fromWrote (W.Bytes n) = record { refusal = 0; place = 0; length = n }
+fromWrote (W.Refused r) = record { refusal = numberOf r; place = placeOf r; length = 0 }
 
 -- the answer of a reading
 abbrev pub fromCounted : Counted → Counts
@@ -46,9 +45,8 @@ fromLocated (L.At start end) = record { refusal = 0; place = 0; start = start; l
 fromLocated (L.Refused r) = record { refusal = numberOf r; place = placeOf r; start = 0; length = 0 }
 
 -- the answer of a label that is read
-abbrev pub fromOrder : code-order.Order → Order
-fromOrder (O.Is k b) = record { refusal = 0; k = k; b = b }
-fromOrder (O.Refused r) = record { refusal = numberOf r; k = 0; b = 0 }
+abbrev pub fromLabelled : Labelled → Order
+fromLabelled l = record { refusal = testNumber (l .tested); b = l .b; count = l .count; lengths = l .lengths }
 
 -- a tally as the tally call takes it
 abbrev pub asTally : Tally → code-tally.Tally

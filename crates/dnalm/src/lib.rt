@@ -5,21 +5,22 @@ ghost use mathlib.Core.Path.{_≡_};
 ghost use Rattle.code.specs.Refusals.{testNumber};
 ghost use Rattle.code.specs.Writing.{writeCall};
 ghost use Rattle.code.specs.ReadCall.{readCall, locateCall};
-ghost use Rattle.code.specs.Label.{labelCall, orderOf};
+ghost use Rattle.code.specs.Order.{order};
+ghost use Rattle.code.specs.Label.{labelCall, labelRead};
 ghost use Rattle.code.specs.Tallies.{tallied};
-ghost use Rattle.dnalm.specs.CallAnswers.{answered, fromWrote, fromCounted, fromLocated, fromOrder, asTally, fromTallied};
+ghost use Rattle.dnalm.specs.CallAnswers.{answered, fromWrote, fromCounted, fromLocated, fromLabelled, asTally, fromTallied};
 ghost use Rattle.dnalm.specs.Demand3Counts.{Demand-3-counts};
 use code::Checked;
 use code::Counted;
 use code::Located;
 use code::Wrote;
 
-// What a writing answers: how many letters were written.
+// What a writing answers: how many bytes were written; of a strand, its letters.
 #[repr(C)]
 pub struct Written {
     pub refusal: u32,
     pub place: usize,
-    pub letters: usize,
+    pub length: usize,
 }
 
 // What a reading answers: how many segments are clean, corrected and lost.
@@ -41,12 +42,13 @@ pub struct Piece {
     pub length: usize,
 }
 
-// What reading a label answers: k and B.
+// What reading a label answers: B, and the layout, which is the first `count` of `lengths`.
 #[repr(C)]
 pub struct Order {
     pub refusal: u32,
-    pub k: u32,
     pub b: u32,
+    pub count: usize,
+    pub lengths: [u16; 64],
 }
 
 // How many strands were read, and their segments by mark.
@@ -68,40 +70,46 @@ pub struct Tallied {
     pub lost: u32,
 }
 
-// Writes a strand to the front of `out`, as `writer::write` does.
-#[no_mangle]
-pub extern "C" fn dnalm_write(k: u32, b: u32, message: &[u8], out: &mut [u8]) -> Written
-    ensures { λ r. ⌜ (r, now (out .exit)) ≡ answered fromWrote (writeCall k b (now (message .entry)) (now (out .entry))) ⌝ }
+// The answer of a writing in numbers.
+fn told(wrote: Wrote) -> Written
+    ensures { λ r. ⌜ r ≡ fromWrote wrote ⌝ }
 {
-    let wrote = writer::write(k, b, message, out);
     match wrote {
-        Wrote::Letters(n) => Written {
+        Wrote::Bytes(n) => Written {
             refusal: 0,
             place: 0,
-            letters: n,
+            length: n,
         },
         Wrote::Refused(r) => Written {
             refusal: refusal::number_of(r) as u32,
             place: refusal::place_of(r),
-            letters: 0,
+            length: 0,
         },
     }
+}
+
+// Writes a strand to the front of `out`, as `writer::write` does.
+#[no_mangle]
+pub extern "C" fn dnalm_write(lengths: &[u16], b: u32, message: &[u8], out: &mut [u8]) -> Written
+    ensures { λ r. do let o = order (now (lengths .entry)) b in ⌜ (r, now (out .exit)) ≡ answered fromWrote (writeCall o (now (message .entry)) (now (out .entry))) ⌝ }
+{
+    told(writer::write(lengths, b, message, out))
 }
 
 // Reads a strand: the message to the front of `message` and the marks to the front of `sheet`, as `reader::read` does.
 // The second clause is demand 3: letters with at most one edit in each segment give the message that was written, and nothing lost.
 #[no_mangle]
 pub extern "C" fn dnalm_read(
-    k: u32,
+    lengths: &[u16],
     b: u32,
     letters: &[u8],
     message: &mut [u8],
     sheet: &mut [u8],
 ) -> Counts
-    ensures { λ r. ⌜ (r, (now (message .exit), now (sheet .exit))) ≡ answered fromCounted (readCall k b (now (letters .entry)) (now (message .entry)) (now (sheet .entry))) ⌝ }
-    ensures { λ r. ⌜ Demand-3-counts k b (now (letters .entry)) (now (message .entry)) (now (sheet .entry)) (r, (now (message .exit), now (sheet .exit))) ⌝ }
+    ensures { λ r. do let o = order (now (lengths .entry)) b in ⌜ (r, (now (message .exit), now (sheet .exit))) ≡ answered fromCounted (readCall o (now (letters .entry)) (now (message .entry)) (now (sheet .entry))) ⌝ }
+    ensures { λ r. do let o = order (now (lengths .entry)) b in ⌜ Demand-3-counts o (now (letters .entry)) (now (message .entry)) (now (sheet .entry)) (r, (now (message .exit), now (sheet .exit))) ⌝ }
 {
-    let counted = reader::read(k, b, letters, message, sheet);
+    let counted = reader::read(lengths, b, letters, message, sheet);
     match counted {
         Counted::Counts(clean, corrected, lost) => Counts {
             refusal: 0,
@@ -122,10 +130,10 @@ pub extern "C" fn dnalm_read(
 
 // Answers which stretch of `letters` is the piece of a segment, from 1, as `pieces::locate` does.
 #[no_mangle]
-pub extern "C" fn dnalm_piece(k: u32, b: u32, letters: &[u8], segment: u32) -> Piece
-    ensures { λ r. ⌜ r ≡ fromLocated (locateCall k b (now (letters .entry)) segment) ⌝ }
+pub extern "C" fn dnalm_piece(lengths: &[u16], b: u32, letters: &[u8], segment: u32) -> Piece
+    ensures { λ r. do let o = order (now (lengths .entry)) b in ⌜ r ≡ fromLocated (locateCall o (now (letters .entry)) segment) ⌝ }
 {
-    let located = pieces::locate(k, b, letters, segment);
+    let located = pieces::locate(lengths, b, letters, segment);
     match located {
         Located::At(from, to) => Piece {
             refusal: 0,
@@ -142,31 +150,37 @@ pub extern "C" fn dnalm_piece(k: u32, b: u32, letters: &[u8], segment: u32) -> P
     }
 }
 
-// Writes the label of k and B to the front of `out`, as `label::write` does. Answers the refusal's number, or 0.
+// Writes the label of an order to the front of `out`, as `label::write` does.
 #[no_mangle]
-pub extern "C" fn dnalm_write_label(k: u32, b: u32, out: &mut [u8]) -> u32
-    ensures { λ r. ⌜ (r, now (out .exit)) ≡ answered testNumber (labelCall k b (now (out .entry))) ⌝ }
+pub extern "C" fn dnalm_write_label(lengths: &[u16], b: u32, out: &mut [u8]) -> Written
+    ensures { λ r. do let o = order (now (lengths .entry)) b in ⌜ (r, now (out .exit)) ≡ answered fromWrote (labelCall o (now (out .entry))) ⌝ }
 {
-    let tested = label::write(k, b, out);
+    told(label::write(lengths, b, out))
+}
+
+// The number of a test's outcome, 0 where nothing is against it.
+fn test_number(tested: Checked) -> u32
+    ensures { λ r. ⌜ r ≡ testNumber tested ⌝ }
+{
     match tested {
         Checked::Fine => 0,
         Checked::Refused(r) => refusal::number_of(r) as u32,
     }
 }
 
-// Reads a label and answers its k and B, as `label::read` does.
+// Reads a label and answers its order, as `label::read` does.
 #[no_mangle]
 pub extern "C" fn dnalm_read_label(bytes: &[u8]) -> Order
-    ensures { λ r. ⌜ r ≡ fromOrder (orderOf (now (bytes .entry))) ⌝ }
+    ensures { λ r. ⌜ r ≡ fromLabelled (labelRead (now (bytes .entry))) ⌝ }
 {
-    let order = label::read(bytes);
-    match order {
-        code::Order::Is(k, b) => Order { refusal: 0, k, b },
-        code::Order::Refused(r) => Order {
-            refusal: refusal::number_of(r) as u32,
-            k: 0,
-            b: 0,
-        },
+    let read = label::read(bytes);
+    let tested = read.tested;
+    let lengths = read.lengths;
+    Order {
+        refusal: test_number(tested),
+        b: read.b,
+        count: read.count,
+        lengths,
     }
 }
 

@@ -1,1 +1,4 @@
-pub mod Bits
+pub mod SameLengths
+pub mod Putting
+pub mod Fields
+pub mod Calls

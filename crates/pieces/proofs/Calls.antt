@@ -1,33 +1,27 @@
 -- What the piece calls use.
---   outside-is        the test of a segment's number
 --   located-is        what locating a piece that is taken answers
 --   refused-located   why a piece was not located
 --   Placed, placed    the piece that was located
-use mathlib.Core.Path.{_≡_, refl, sym, ap, _∙_}
-use mathlib.Core.Bool.{Bool}
+use mathlib.Core.Path.{_≡_, refl}
 use mathlib.Core.List.{List}
-use Prim.Native.Nat.{ℕ, _+_, _-_, _*_, _/_, _≤_}
+use Prim.Native.Nat.{ℕ, _+_, _-_, _≤_}
 use native.Mathlib.Omega.{arith}
-use lib.ListN.{length, take, drop, replicate, length-replicate}
+use lib.ListN.{length, take, drop}
 use Rattle.code.specs.declared.Refusal.{Refusal}
 use Rattle.code.specs.declared.Checked.{Checked}
 use Rattle.code.specs.declared.Checked.the-variants.{Fine, Refused}
 use Rattle.code.specs.declared.Located.{Located}
 use Rattle.code.specs.declared.Located.the-variants as L
 use Rattle.code.specs.Symbols.{legible}
-use Rattle.code.specs.Layout.{layoutOf}
-use Rattle.code.specs.Refusals.{unlessRefused, outside}
+use Rattle.code.specs.Order.{Order}
+use Rattle.code.specs.Refusals.{unlessRefused}
 use Rattle.code.specs.Strands.{outcomes}
 use Rattle.code.specs.ReadCall.{pieceTest, outcomesOf, pieceStart, pieceLength, pieceOf, locatedAs, locateCall}
 use Rattle.code.specs.laws.ReadCall.{piece-taken, piece-inside}
 
--- the test of a segment's number, for l segments
-pub outside-is : (k b i : ℕ) (r : Bool) → r ≡ outside 1 (4 * b / k) i → outside 1 (length (layoutOf k b)) i ≡ r
-outside-is k b i r e = ap (λ (l : ℕ). outside 1 l i) (length-replicate (4 * b / k) k) ∙ sym e
-
 -- what locating the piece of segment i answers, s being the symbols of the letters
-pub located-is : (k b : ℕ) (cs s : List ℕ) (i : ℕ) (r : Located) → s ≡ legible cs → pieceTest k b cs i ≡ Fine → r ≡ locatedAs (outcomes (replicate (4 * b / k) k) s) (i - 1) → r ≡ locateCall k b cs i
-located-is k b cs s i r same tested e = rw tested (rw same at e)
+pub located-is : (o : Order) (cs s : List ℕ) (i : ℕ) (r : Located) → s ≡ legible cs → pieceTest o cs i ≡ Fine → r ≡ locatedAs (outcomes (o .lengths) s) (i - 1) → r ≡ locateCall o cs i
+located-is o cs s i r same tested e = rw tested (rw same at e)
 
 at-fine : (t : Checked) (start end x y : ℕ) → unlessRefused t (L.At start end) L.Refused ≡ L.At x y → (t ≡ Fine) × (x ≡ start) × (y ≡ end)
 at-fine Fine start end x y e = (refl, cc, cc)
@@ -38,30 +32,30 @@ refused-at Fine start end r e = let z : _≡_ {A = ℕ} 0 1 = cc in absurd (omeg
 refused-at (Refused u) start end r e = cc
 
 -- the piece that was located from x to y
-pub record Placed (k b : ℕ) (cs : List ℕ) (i x y : ℕ) : Type 0 where
-  pub tested : pieceTest k b cs i ≡ Fine
+pub record Placed (o : Order) (cs : List ℕ) (i x y : ℕ) : Type 0 where
+  pub tested : pieceTest o cs i ≡ Fine
   pub ordered : x ≤ y
   pub inside : y ≤ length cs
-  pub letters : take (y - x) (drop x cs) ≡ pieceOf (outcomesOf k b cs) cs i
+  pub letters : take (y - x) (drop x cs) ≡ pieceOf (outcomesOf o cs) cs i
 
-module _ (k b : ℕ) (cs : List ℕ) (i : ℕ) where
+module _ (o : Order) (cs : List ℕ) (i : ℕ) where
   abbrev start : ℕ
-  start = pieceStart (outcomesOf k b cs) (i - 1)
+  start = pieceStart (outcomesOf o cs) (i - 1)
 
   abbrev span : ℕ
-  span = pieceLength (outcomesOf k b cs) (i - 1)
+  span = pieceLength (outcomesOf o cs) (i - 1)
 
-  pub refused-located : (r : Refusal) → locateCall k b cs i ≡ L.Refused r → pieceTest k b cs i ≡ Refused r
-  refused-located r e = refused-at (pieceTest k b cs i) start (start + span) r e
+  pub refused-located : (r : Refusal) → locateCall o cs i ≡ L.Refused r → pieceTest o cs i ≡ Refused r
+  refused-located r e = refused-at (pieceTest o cs i) start (start + span) r e
 
-  pub placed : (x y : ℕ) → locateCall k b cs i ≡ L.At x y → Placed k b cs i x y
+  pub placed : (x y : ℕ) → locateCall o cs i ≡ L.At x y → Placed o cs i x y
   placed x y e =
-      let p = at-fine (pieceTest k b cs i) start (start + span) x y e in
-      let q = piece-taken k b cs i (p .0) in
+      let p = at-fine (pieceTest o cs i) start (start + span) x y e in
+      let q = piece-taken o cs i (p .0) in
       let m : y - x ≡ span = omega (arith, p .1, p .2) in
       record {
         tested = p .0;
         ordered = omega (arith, p .1, p .2);
-        inside = omega (arith, p .1, p .2, piece-inside k b cs (q .0) (q .1) (i - 1));
+        inside = omega (arith, p .1, p .2, piece-inside o cs (q .0) (q .1) (i - 1));
         letters = rw (m, p .1);
       }

@@ -3,28 +3,29 @@ use code::Checked;
 use code::Decoded;
 use code::Located;
 use code::Refusal;
-use reading::read_equal;
+use reading::read_layout;
 use refusal::received_test;
 ghost use mathlib.Core.Path.{_≡_};
 ghost use Prim.Native.Nat.{_<_};
-ghost use lib.ListN.{replicate};
-ghost use Rattle.code.specs.Bounds.{Received, Equal};
+ghost use lib.ListN.{length};
+ghost use Rattle.code.specs.Bounds.{Received};
+ghost use Rattle.code.specs.Order.{order, Taken};
 ghost use Rattle.code.specs.Strands.{outcomes};
 ghost use Rattle.code.specs.ReadCall.{locatedAs, pieceCall, locateCall};
 
-// Where the i-th of l pieces stands, from 0, in symbols read as segments of k symbols.
-fn span_of(k: usize, l: usize, s: &[u8], i: usize) -> Located
+// Where the i-th piece stands, from 0, in symbols read as the segments of an order.
+fn span_of(lengths: &[u16], b: u32, s: &[u8], i: usize) -> Located
     requires { ⌜ Received (now s) ⌝ }
-    requires { ⌜ Equal k l × (i < l) ⌝ }
-    ensures { λ r. ⌜ r ≡ locatedAs (outcomes (replicate l k) (now (s .entry))) i ⌝ }
+    requires { ⌜ Taken (order (now lengths) b) × (i < length (now lengths)) ⌝ }
+    ensures { λ r. ⌜ r ≡ locatedAs (outcomes (now (lengths .entry)) (now (s .entry))) i ⌝ }
 {
     let mut symbols = [0u8; 512];
     let mut verdicts = [0u32; 64];
     let mut ends = [0usize; 64];
-    let n = l * k;
-    read_equal(
-        k,
-        l,
+    let n = 4 * b as usize;
+    let l = lengths.len();
+    read_layout(
+        lengths,
         s,
         &mut symbols[..n],
         &mut verdicts[..l],
@@ -40,10 +41,10 @@ fn span_of(k: usize, l: usize, s: &[u8], i: usize) -> Located
 // Answers where the piece of a segment starts and where it ends, the segments being counted from 1; for callers that take places
 // and not a part.
 // Turned down, in this order: 1 to 4 and 6 as for a reading; 9 there is no such segment.
-pub fn locate(k: u32, b: u32, letters: &[u8], segment: u32) -> Located
-    ensures { λ r. ⌜ r ≡ locateCall k b (now (letters .entry)) segment ⌝ }
+pub fn locate(lengths: &[u16], b: u32, letters: &[u8], segment: u32) -> Located
+    ensures { λ r. do let o = order (now (lengths .entry)) b in ⌜ r ≡ locateCall o (now (letters .entry)) segment ⌝ }
 {
-    let received = received_test(k, b, letters.len());
+    let received = received_test(lengths, b, letters.len());
     if let Checked::Refused(r) = received {
         return Located::Refused(r);
     }
@@ -52,29 +53,29 @@ pub fn locate(k: u32, b: u32, letters: &[u8], segment: u32) -> Located
     if let Decoded::Foreign(i) = decoded {
         return Located::Refused(Refusal::ForeignLetter(i));
     }
-    let l = 4 * b / k;
-    if refusal::outside(1, l, segment) {
+    let number = segment as usize;
+    if refusal::outside(1, lengths.len(), number) {
         return Located::Refused(Refusal::NoSuchSegment);
     }
     let n = letters.len();
-    span_of(k as usize, l as usize, &s[..n], segment as usize - 1)
+    span_of(lengths, b, &s[..n], number - 1)
 }
 
-// Hands back the piece of a segment, from 1: its stretch of the caller's own `letters`, received for k and B; `number` and
+// Hands back the piece of a segment, from 1: its stretch of the caller's own `letters`, received for an order; `number` and
 // `place` become 0.
 // Turned down, in this order: 1 to 4 and 6 as for a reading; 9 there is no such segment. Then the part is empty, and `number` and
 // `place` become those of the refusal.
 pub fn piece<'a>(
-    k: u32,
+    lengths: &[u16],
     b: u32,
     letters: &'a [u8],
     segment: u32,
     number: &mut u8,
     place: &mut usize,
 ) -> &'a [u8]
-    ensures { λ r. ⌜ (now r, (now (number .exit), now (place .exit))) ≡ pieceCall k b (now (letters .entry)) segment ⌝ }
+    ensures { λ r. do let o = order (now (lengths .entry)) b in ⌜ (now r, (now (number .exit), now (place .exit))) ≡ pieceCall o (now (letters .entry)) segment ⌝ }
 {
-    let located = locate(k, b, letters, segment);
+    let located = locate(lengths, b, letters, segment);
     match located {
         Located::At(from, to) => {
             *number = 0;

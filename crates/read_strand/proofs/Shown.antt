@@ -10,7 +10,7 @@ use lib.ListN.{length, take, replicate, length-take}
 use Rattle.code.specs.declared.Refusal.{Refusal}
 use Rattle.code.specs.declared.Counted.{Counted}
 use Rattle.code.specs.declared.Counted.the-variants as N
-use Rattle.code.specs.declared.Order.the-variants as O
+use Rattle.code.specs.Order.{Order}
 use Rattle.code.specs.ReadCall.{readCall}
 use Rattle.text.specs.Lines.{feed}
 use Rattle.text.specs.Hex.{hexDigits}
@@ -18,17 +18,17 @@ use Rattle.text.specs.laws.Hex.{length-hex-digits}
 use Rattle.console.specs.RefusedLine.{refusedLine}
 use Rattle.read_strand.specs.ReadOutput.{countsLine, shown, readText}
 
-module _ (k b : ℕ) (letters message sheet : List ℕ) (answer : Counted) (e : (answer, (message, sheet)) ≡ readCall k b letters (replicate 128 0) (replicate 16 0)) where
+module _ (o : Order) (letters message sheet : List ℕ) (answer : Counted) (e : (answer, (message, sheet)) ≡ readCall o letters (replicate 128 0) (replicate 16 0)) where
   -- what is shown of an answer and its buffers
-  answered : (c : Counted) → answer ≡ c → shown b (c, (message, sheet)) ≡ readText (O.Is k b) letters
+  answered : (c : Counted) → answer ≡ c → shown (o .b) (c, (message, sheet)) ≡ readText o letters
   unfolding readText
-  answered c told = ap (λ (a : Counted). shown b (a, (message, sheet))) (sym told) ∙ ap (shown b) e
+  answered c told = ap (λ (a : Counted). shown (o .b) (a, (message, sheet))) (sym told) ∙ ap (shown (o .b)) e
 
-  pub counts-shown : (clean corrected lost : ℕ) → answer ≡ N.Counts clean corrected lost → hexDigits (take b message) ++ feed ∷ countsLine clean corrected lost ≡ readText (O.Is k b) letters
+  pub counts-shown : (clean corrected lost : ℕ) → answer ≡ N.Counts clean corrected lost → hexDigits (take (o .b) message) ++ feed ∷ countsLine clean corrected lost ≡ readText o letters
   unfolding shown
   counts-shown clean corrected lost told = answered (N.Counts clean corrected lost) told
 
-  pub refused-shown : (r : Refusal) → answer ≡ N.Refused r → refusedLine r ≡ readText (O.Is k b) letters
+  pub refused-shown : (r : Refusal) → answer ≡ N.Refused r → refusedLine r ≡ readText o letters
   unfolding shown
   refused-shown r told = answered (N.Refused r) told
 

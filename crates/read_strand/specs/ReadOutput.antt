@@ -9,13 +9,12 @@ use Prim.Native.Nat.{ℕ, _+_, _*_}
 use lib.ListN.{take, replicate}
 use Rattle.code.specs.declared.Counted.{Counted}
 use Rattle.code.specs.declared.Counted.the-variants as N
-use Rattle.code.specs.declared.Order.{Order}
-use Rattle.code.specs.declared.Order.the-variants as O
+use Rattle.code.specs.Order.{Order}
 use Rattle.code.specs.ReadCall.{readCall}
-use Rattle.text.specs.Lines.{feed, line, behind}
+use Rattle.text.specs.Lines.{feed}
 use Rattle.text.specs.Hex.{hexDigits}
 use Rattle.text.specs.Decimal.{named}
-use Rattle.console.specs.LabelLine.{orderLine}
+use Rattle.console.specs.LabelLine.{printed}
 use Rattle.console.specs.RefusedLine.{refusedLine}
 
 -- how many segments are clean, corrected and lost
@@ -29,12 +28,11 @@ shown b (N.Refused r, buffers) = refusedLine r
 
 -- the same for an order and letters, with buffers of zeros
 unfoldable pub readText : Order → List ℕ → List ℕ
-readText (O.Is k b) letters = shown b (readCall k b letters (replicate 128 0) (replicate 16 0))
-readText (O.Refused r) letters = refusedLine r
+readText o letters = shown (o .b) (readCall o letters (replicate 128 0) (replicate 16 0))
 
 -- what is printed for an input: its first line holds the label, its second the letters
 unfoldable pub readOutput : List ℕ → List ℕ
-readOutput input = readText (orderLine (line input)) (line (behind input))
+readOutput input = printed readText input
 
 -- room for the line with the counts: its words, three numbers of at most ten digits and a line feed
 abbrev pub countsRoom : ℕ

@@ -1,6 +1,6 @@
 // Reads two lines, a label and a strand, and prints the message in hexadecimal digits and the counts; or `refused` and the number.
+use code::Checked;
 use code::Counted;
-use code::Order;
 use console::Input;
 use console::put_refused;
 use text::decimal::put_named;
@@ -12,7 +12,7 @@ use text::put::put;
 ghost use mathlib.Core.Path.{_≡_};
 ghost use Prim.Native.Nat.{_+_, _≤_};
 ghost use lib.ListN.{length, take};
-ghost use Rattle.code.specs.declared.Order.the-variants as O;
+ghost use Rattle.code.specs.Order.{order};
 ghost use Rattle.text.specs.Put.{Appended};
 ghost use Rattle.read_strand.specs.ReadOutput.{countsLine, countsRoom, readText, readOutput, outputRoom};
 
@@ -27,14 +27,14 @@ fn put_counts(out: &mut [u8], at: usize, clean: u32, corrected: u32, lost: u32) 
     put(out, third, b"\n")
 }
 
-// What letters are read as, for k and B, at the front of `out`; the answer is where it ends.
-fn put_reading(out: &mut [u8], k: u32, b: u32, letters: &[u8]) -> usize
+// What letters are read as, for an order, at the front of `out`; the answer is where it ends.
+fn put_reading(out: &mut [u8], lengths: &[u16], b: u32, letters: &[u8]) -> usize
     requires { ⌜ outputRoom ≤ length (now out) ⌝ }
-    ensures { λ r. ⌜ Appended (now (out .entry)) 0 (readText (O.Is k b) (now (letters .entry))) (now (out .exit)) r ⌝ }
+    ensures { λ r. do let o = order (now (lengths .entry)) b in ⌜ Appended (now (out .entry)) 0 (readText o (now (letters .entry))) (now (out .exit)) r ⌝ }
 {
     let mut message = [0u8; 128];
     let mut sheet = [0u8; 16];
-    match reader::read(k, b, letters, &mut message, &mut sheet) {
+    match reader::read(lengths, b, letters, &mut message, &mut sheet) {
         Counted::Counts(clean, corrected, lost) => {
             let digits = put_hex(out, 0, front(&message, b as usize));
             let next = put(out, digits, b"\n");
@@ -49,16 +49,20 @@ fn output(input: &[u8], out: &mut [u8]) -> usize
     requires { ⌜ outputRoom ≤ length (now out) ⌝ }
     ensures { λ r. ⌜ take r (now (out .exit)) ≡ readOutput (now (input .entry)) ⌝ }
 {
-    match console::order_of(line(input)) {
-        Order::Is(k, b) => put_reading(out, k, b, line(behind(input))),
-        Order::Refused(r) => put_refused(out, 0, r),
+    let label = console::order_of(line(input));
+    let tested = label.tested;
+    if let Checked::Refused(r) = tested {
+        return put_refused(out, 0, r);
     }
+    let lengths = label.lengths;
+    let count = label.count;
+    put_reading(out, &lengths[..count], label.b, line(behind(input)))
 }
 
 // The buffer holds every pair of lines that is taken; a line that it does not hold whole is refused as too long.
 fn main() {
     if console::is_wrong_use(
-        b"read_strand takes no arguments. It reads two lines: a label in eight hexadecimal digits, and a strand in the letters A, T, C and G.\n",
+        b"read_strand takes no arguments. It reads two lines: a label in hexadecimal digits, and a strand in the letters A, T, C and G.\n",
     ) {
         return;
     }

@@ -3,33 +3,33 @@ use code::Checked;
 use code::Counted;
 use code::Decoded;
 use code::Refusal;
-use reading::read_equal;
+use reading::read_layout;
 use refusal::received_test;
 use refusal::short_buffers;
 ghost use mathlib.Core.Path.{_≡_};
-ghost use Prim.Native.Nat.{_*_, _/_, _≤_};
-ghost use lib.ListN.{length, replicate};
-ghost use Rattle.code.specs.Bounds.{Received, Equal};
+ghost use mathlib.Core.Bool.{false};
+ghost use lib.ListN.{length};
+ghost use Rattle.code.specs.Bounds.{Received};
+ghost use Rattle.code.specs.Order.{order, Taken};
 ghost use Rattle.code.specs.Strands.{outcomes};
-ghost use Rattle.code.specs.Sheet.{sheetBytes};
-ghost use Rattle.code.specs.ReadCall.{readAs, readCall};
+ghost use Rattle.code.specs.ReadCall.{shortBuffers, readAs, readCall};
 ghost use Rattle.code.specs.ReadDemand.{Demand-3-call};
 
-// Reads l segments of k symbols: bytes at the front of `message`, marks at the front of `sheet`, and their counts.
-fn read_symbols(k: usize, l: usize, s: &[u8], message: &mut [u8], sheet: &mut [u8]) -> Counted
+// Reads the segments of an order: bytes at the front of `message`, marks at the front of `sheet`, and their counts.
+fn read_symbols(lengths: &[u16], b: u32, s: &[u8], message: &mut [u8], sheet: &mut [u8]) -> Counted
     requires { ⌜ Received (now s) ⌝ }
-    requires { ⌜ Equal k l ⌝ }
-    requires { ⌜ (l * k / 4 ≤ length (now message)) × (sheetBytes l ≤ length (now sheet)) ⌝ }
-    ensures { λ r. ⌜ (r, (now (message .exit), now (sheet .exit))) ≡ readAs (outcomes (replicate l k) (now (s .entry))) (now (message .entry)) (now (sheet .entry)) ⌝ }
+    requires { ⌜ Taken (order (now lengths) b) ⌝ }
+    requires { ⌜ shortBuffers (order (now lengths) b) (length (now message)) (length (now sheet)) ≡ false ⌝ }
+    ensures { λ r. ⌜ (r, (now (message .exit), now (sheet .exit))) ≡ readAs (outcomes (now (lengths .entry)) (now (s .entry))) (now (message .entry)) (now (sheet .entry)) ⌝ }
 {
     let mut symbols = [0u8; 512];
     let mut verdicts = [0u32; 64];
     let mut ends = [0usize; 64];
     let mut marks = [0u8; 64];
-    let n = l * k;
-    read_equal(
-        k,
-        l,
+    let n = 4 * b as usize;
+    let l = lengths.len();
+    read_layout(
+        lengths,
         s,
         &mut symbols[..n],
         &mut verdicts[..l],
@@ -41,24 +41,29 @@ fn read_symbols(k: usize, l: usize, s: &[u8], message: &mut [u8], sheet: &mut [u
     sheet::counts_of(&marks[..l])
 }
 
-// Reads a strand: the received `letters`, written for k = `k` and B = `b`. The B bytes of the message go to the front of `message`,
-// zeros where a segment is lost; the sheet goes to the front of `sheet`, two bits for each of the l segments, the first in the
-// highest bits: 0 clean, 1 corrected, 2 lost. Answers how many segments are clean, corrected and lost.
-// Turned down, in this order: 1 k is not 2 to 64; 2 B is not 1 to 128; 3 4B is not a multiple of k, or makes more than 64
-// segments; 4 there are more than 2,048 letters; 5 `message` has fewer than B bytes, or `sheet` fewer than one for each four
+// Reads a strand: the received `letters`, written on the layout `lengths` for B = `b`. The B bytes of the message go to the front of
+// `message`, zeros where a segment is lost; the sheet goes to the front of `sheet`, two bits for each segment, the first in the highest
+// bits: 0 clean, 1 corrected, 2 lost. Answers how many segments are clean, corrected and lost.
+// Turned down, in this order: 1 a length is not 2 to 64; 2 B is not 1 to 128; 3 there are no lengths or more than 64, or they do not
+// sum to 4B; 4 there are more than 2,048 letters; 5 `message` has fewer than B bytes, or `sheet` fewer than one for each four
 // segments; 6 a byte is none of A, T, C and G, with the first such place.
 // The bytes behind the message and behind the sheet are untouched; a refusal leaves both buffers as they were.
 // The second clause is demand 3: letters with at most one edit in each segment give the message that was written, and nothing lost.
-pub fn read(k: u32, b: u32, letters: &[u8], message: &mut [u8], sheet: &mut [u8]) -> Counted
-    ensures { λ r. ⌜ (r, (now (message .exit), now (sheet .exit))) ≡ readCall k b (now (letters .entry)) (now (message .entry)) (now (sheet .entry)) ⌝ }
-    ensures { λ r. ⌜ Demand-3-call k b (now (letters .entry)) (now (message .entry)) (now (sheet .entry)) (r, (now (message .exit), now (sheet .exit))) ⌝ }
+pub fn read(
+    lengths: &[u16],
+    b: u32,
+    letters: &[u8],
+    message: &mut [u8],
+    sheet: &mut [u8],
+) -> Counted
+    ensures { λ r. do let o = order (now (lengths .entry)) b in ⌜ (r, (now (message .exit), now (sheet .exit))) ≡ readCall o (now (letters .entry)) (now (message .entry)) (now (sheet .entry)) ⌝ }
+    ensures { λ r. do let o = order (now (lengths .entry)) b in ⌜ Demand-3-call o (now (letters .entry)) (now (message .entry)) (now (sheet .entry)) (r, (now (message .exit), now (sheet .exit))) ⌝ }
 {
-    let received = received_test(k, b, letters.len());
+    let received = received_test(lengths, b, letters.len());
     if let Checked::Refused(r) = received {
         return Counted::Refused(r);
     }
-    let l = (4 * b / k) as usize;
-    if short_buffers(b as usize, l, message.len(), sheet.len()) {
+    if short_buffers(lengths, b, message.len(), sheet.len()) {
         return Counted::Refused(Refusal::ShortBuffer);
     }
     let mut s = [0u8; 2048];
@@ -67,5 +72,5 @@ pub fn read(k: u32, b: u32, letters: &[u8], message: &mut [u8], sheet: &mut [u8]
         return Counted::Refused(Refusal::ForeignLetter(i));
     }
     let n = letters.len();
-    read_symbols(k as usize, l, &s[..n], message, sheet)
+    read_symbols(lengths, b, &s[..n], message, sheet)
 }

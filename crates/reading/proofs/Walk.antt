@@ -1,28 +1,29 @@
 -- The walk over a layout: what stands, followed by what is to come, is the whole.
---   Walk            how far the walk has come
---   walk-begin      it holds at the start
---   walk-room       the next message has room
---   walk-asks       what the reading of the next segment asks
---   walk-numbered   its verdict has a number
---   walk-turn       it holds behind that segment
---   Walked          what the walk leaves in its buffers
---   walk-end        at the end it gives the whole
+--   first-length                         the first of some lengths, and those behind it
+--   Walk                                 how far the walk has come
+--   walk-begin                           it holds at the start
+--   walk-small, walk-inside, walk-room   the next segment is there, and its message has room
+--   walk-asks                            what the reading of the next segment asks
+--   walk-numbered                        its verdict has a number
+--   walk-turn                            it holds behind that segment
+--   Walked                               what the walk leaves in its buffers
+--   walk-end                             at the end it gives the whole
 use mathlib.Core.Path.{_≡_, refl, sym, ap, _∙_}
 use mathlib.Core.Bool.{Bool, true, not}
 use mathlib.Core.List.{List, [], _∷_, _++_, map, append-assoc, append-nil}
 use mathlib.Core.Option.{Option, some, none}
-use Prim.Native.Nat.{ℕ, zero, suc, _+_, _-_, _≤_, _<_}
+use Prim.Native.Nat.{ℕ, suc, _+_, _-_, _≤_, _<_}
 use native.Mathlib.Numerals.{add-one}
 use native.Mathlib.Omega.{arith}
 use borrow.Author.Tests.{ne-eqb}
 use lib.Dec.{eqb}
-use lib.ListN.{length, getD, take, drop, set, length-drop, length-set, drop-of-length-le}
-use lib.Seq.{drop-cons, drop-drop, take-all, take-suc-set, length-take-le}
+use lib.ListN.{length, getD, take, drop, set, length-drop, length-set}
+use lib.Seq.{drop-drop, take-all, take-suc-set, length-take-le}
 use Rattle.code.specs.Buffers.{putAt}
 use Rattle.code.specs.laws.Lists.{take-put, length-put}
+use Rattle.code.specs.Limits.{leastLength}
 use Rattle.code.specs.Bounds.{longest, Length, Received}
 use Rattle.code.specs.Layout.{sum, Lengths, more, joined}
-use Rattle.code.specs.laws.Layout.{lengths-at}
 use Rattle.code.specs.Strands.{Outcome, reading, outcomes, messagesOf, verdictsOf}
 use Rattle.code.specs.Verdicts.{verdictNumber, Numbered}
 use Rattle.scan.specs.declared.Next.{Next}
@@ -40,11 +41,13 @@ part-put a n d y b e h =
     let q : a + n - a ≡ length b = omega arith in
     rw (e, q, drop-drop (length b) a d) (sym (append-assoc (take a d) b (drop (a + length b) d)))
 
--- the lengths behind some of a layout
-lengths-drop : {most : ℕ} (i : ℕ) (ks : List ℕ) → Lengths most ks → Lengths most (drop i ks)
-lengths-drop zero ks hs = hs
-lengths-drop (suc i) [] hs = hs
-lengths-drop (suc i) (k ∷ ks) (more h m hs) = lengths-drop i ks hs
+-- the first of some lengths, and those behind it as a part
+pub first-length : (ks : List ℕ) → 0 < length ks → ks ≡ getD ks 0 0 ∷ take (length ks - 1) (drop 1 ks)
+first-length [] h = absurd (omega arith)
+first-length (k ∷ ks) h = let e : suc (length ks) - 1 ≡ length ks = omega arith in rw e (ap (_∷_ k) (sym (take-all (length ks) ks (omega arith))))
+
+length-of : {most k : ℕ} {ks : List ℕ} → Lengths most (k ∷ ks) → (leastLength ≤ k) × (k ≤ most) × Lengths most ks
+length-of (more h m hs) = (h, m, hs)
 
 -- behind the first segment a start may be known to be clean
 marked-behind : (next : Next) → Marked next true
@@ -62,36 +65,38 @@ abbrev pub numbersOf : List Outcome → List ℕ
 numbersOf os = map verdictNumber (verdictsOf os)
 
 module _ (ks s : List ℕ) where
-  -- the outcomes that are to come
-  abbrev pub rest : ℕ → Next → List Outcome
-  rest i next = going (startOf next) (not (eqb i 0)) (drop i ks) s
+  -- the outcomes of the segments that are left
+  abbrev pub to-come : ℕ → Next → List ℕ → List Outcome
+  to-come i next rest = going (startOf next) (not (eqb i 0)) rest s
 
   -- where the last piece ended
   abbrev pub place : Next → ℕ
   place next = startPlace (startOf next) (length s)
 
-  -- i segments are read, their messages are the first `at` symbols, and the next one starts at `next`
-  pub record Walk (symbols verdicts ends : List ℕ) (next : Next) (at i : ℕ) : Type 0 where
-    pub inside : i ≤ length ks
-    pub behind : at + sum (drop i ks) ≡ length symbols
+  -- i segments are read, their messages are the first `at` symbols, the next one starts at `next`, and the lengths `rest` are left
+  pub record Walk (symbols verdicts ends : List ℕ) (next : Next) (at i : ℕ) (rest : List ℕ) : Type 0 where
+    pub count : i + length rest ≡ length ks
+    pub behind : at + sum rest ≡ length symbols
     pub symbols-room : length symbols ≡ sum ks
     pub verdicts-room : length verdicts ≡ length ks
     pub ends-room : length ends ≡ length ks
-    pub known : Known s (drop i ks) next
+    pub lengths : Lengths longest rest
+    pub known : Known s rest next
     pub marked : Marked next (not (eqb i 0))
-    pub messages-are : take at symbols ++ messagesOf (rest i next) ≡ messagesOf (outcomes ks s)
-    pub verdicts-are : take i verdicts ++ numbersOf (rest i next) ≡ numbersOf (outcomes ks s)
-    pub ends-are : take i ends ++ endsFrom (place next) (rest i next) ≡ endsFrom 0 (outcomes ks s)
+    pub messages-are : take at symbols ++ messagesOf (to-come i next rest) ≡ messagesOf (outcomes ks s)
+    pub verdicts-are : take i verdicts ++ numbersOf (to-come i next rest) ≡ numbersOf (outcomes ks s)
+    pub ends-are : take i ends ++ endsFrom (place next) (to-come i next rest) ≡ endsFrom 0 (outcomes ks s)
 
-  pub walk-begin : (symbols verdicts ends : List ℕ) → length symbols ≡ sum ks → length verdicts ≡ length ks → length ends ≡ length ks → Walk symbols verdicts ends (At 0 0) 0 0
+  pub walk-begin : (symbols verdicts ends : List ℕ) → Lengths longest ks → length symbols ≡ sum ks → length verdicts ≡ length ks → length ends ≡ length ks → Walk symbols verdicts ends (At 0 0) 0 0 ks
   unfolding going
-  walk-begin symbols verdicts ends a b c =
+  walk-begin symbols verdicts ends h a b c =
       record {
-        inside = omega arith;
+        count = omega arith;
         behind = omega arith;
         symbols-room = a;
         verdicts-room = b;
         ends-room = c;
+        lengths = h;
         known = record { inside = omega arith; symbol = omega arith };
         marked = tt;
         messages-are = refl;
@@ -99,28 +104,25 @@ module _ (ks s : List ℕ) where
         ends-are = refl;
       }
 
-  module _ (lengths : Lengths longest ks) (symbols verdicts ends : List ℕ) (next : Next) (at i : ℕ) (w : Walk symbols verdicts ends next at i) (h : i < length ks) where
-    abbrev k : ℕ
-    k = getD ks i 0
-
+  -- the next segment has the length k, and the lengths `behind` follow it
+  module _ (symbols verdicts ends : List ℕ) (next : Next) (at i : ℕ) (rest : List ℕ) (w : Walk symbols verdicts ends next at i rest) (k : ℕ) (behind : List ℕ) (here : rest ≡ k ∷ behind) where
     abbrev marked : Bool
     marked = not (eqb i 0)
 
-    abbrev behind : List ℕ
-    behind = drop (i + 1) ks
-
-    -- the part of the buffer for the message, and the part of the layout behind the segment, as the walk lends them
+    -- the part of the buffer for the message, as the walk lends it
     abbrev part : List ℕ
     part = take (at + k - at) (drop at symbols)
 
-    abbrev lent : List ℕ
-    lent = take (length ks - (i + 1)) (drop (i + 1) ks)
+    bounds : (leastLength ≤ k) × (k ≤ longest) × Lengths longest behind
+    bounds = length-of (rw here at (w .lengths))
 
-    here : drop i ks ≡ k ∷ behind
-    here = rw (add-one, drop-cons ks i 0 h)
+    -- the length is small
+    pub walk-small : k ≤ longest
+    walk-small = bounds .1
 
-    lent-is : lent ≡ behind
-    lent-is = take-all (length ks - (i + 1)) behind (simp length-drop (omega arith))
+    -- there is a segment
+    pub walk-inside : i < length ks
+    walk-inside = omega (arith, w .count, ap length here)
 
     -- the message has room
     pub walk-room : at + k ≤ length symbols
@@ -133,21 +135,21 @@ module _ (ks s : List ℕ) where
         rw q (length-take-le k (drop at symbols) (simp length-drop (omega (arith, walk-room))))
 
     -- what the reading of the segment asks
-    pub walk-asks : Length (length part) × Lengths longest lent × Known s (length part ∷ lent) next
-    walk-asks = rw (part-is, lent-is) (lengths-at ks i lengths h, lengths-drop (i + 1) ks lengths, rw here at (w .known))
+    pub walk-asks : Length (length part) × Lengths longest behind × Known s (length part ∷ behind) next
+    walk-asks = rw part-is ((bounds .0, bounds .1), bounds .2, rw here at (w .known))
 
     -- the answer of the segment, and its message
-    module _ (out : List ℕ) (r : Answer) (read : IsStep (stepOf (startOf next) marked (length part) lent s) s lent out r) where
+    module _ (out : List ℕ) (r : Answer) (read : IsStep (stepOf (startOf next) marked (length part) behind s) s behind out r) where
       abbrev t : Step
       t = stepOf (startOf next) marked k behind s
 
       is-step : IsStep t s behind out r
-      is-step = rw (part-is, lent-is) at read
+      is-step = rw part-is at read
 
       pub walk-numbered : Received s → Numbered (r .verdict)
-      walk-numbered received = rw (is-step .verdict) (step-numbered marked k behind s received (lengths-at ks i lengths h) (startOf next))
+      walk-numbered received = rw (is-step .verdict) (step-numbered marked k behind s received (bounds .0, bounds .1) (startOf next))
 
-      split : rest i next ≡ t .outcome ∷ rest (i + 1) (r .next)
+      split : to-come i next rest ≡ t .outcome ∷ to-come (i + 1) (r .next) behind
       split =
           let z : not (eqb (i + 1) 0) ≡ true = ap not (ne-eqb (i + 1) 0 (λ x. omega arith)) in
           rw (is-step .next, z, here) (going-step marked k behind s (startOf next))
@@ -155,26 +157,27 @@ module _ (ks s : List ℕ) where
       end-is : place (r .next) ≡ place next + length (t .outcome .piece)
       end-is =
           let e : place (r .next) ≡ startPlace (t .next) (length s) = ap (λ (x : Option (ℕ × ℕ)). startPlace x (length s)) (is-step .next) in
-          e ∙ step-end marked k behind s (startOf next) (place-inside s (drop i ks) next (w .known)) (omega (arith, e, place-inside s behind (r .next) (is-step .known)))
+          e ∙ step-end marked k behind s (startOf next) (place-inside s rest next (w .known)) (omega (arith, e, place-inside s behind (r .next) (is-step .known)))
 
-      pub walk-turn : (v e : ℕ) → v ≡ verdictNumber (r .verdict) → e ≡ nextPlace (r .next) (length s) → Walk (take at symbols ++ (out ++ drop (at + k - at) (drop at symbols))) (set verdicts i v) (set ends i e) (r .next) (at + k) (i + 1)
+      pub walk-turn : (v e : ℕ) → v ≡ verdictNumber (r .verdict) → e ≡ nextPlace (r .next) (length s) → Walk (take at symbols ++ (out ++ drop (at + k - at) (drop at symbols))) (set verdicts i v) (set ends i e) (r .next) (at + k) (i + 1) behind
       unfolding sum joined endsFrom
       walk-turn v e number end =
           let m = t .outcome .message in
-          let l : length m ≡ k = step-length marked k behind s (startOf next) (omega (arith, lengths-at ks i lengths h .0)) in
+          let l : length m ≡ k = step-length marked k behind s (startOf next) (omega (arith, bounds .0)) in
           let p = part-put at k symbols out m (is-step .message) l in
           let long : length (putAt symbols at m) ≡ length symbols = length-put symbols at m (omega (arith, walk-room)) in
           let front : take (at + k) (putAt symbols at m) ≡ take at symbols ++ m = ap (λ (x : ℕ). take (at + x) (putAt symbols at m)) (sym l) ∙ take-put symbols at m (omega (arith, walk-room)) in
-          let more-verdicts : take (i + 1) (set verdicts i v) ≡ take i verdicts ++ v ∷ [] = rw add-one (take-suc-set verdicts i v (omega (arith, w .verdicts-room))) in
-          let more-ends : take (i + 1) (set ends i e) ≡ take i ends ++ e ∷ [] = rw add-one (take-suc-set ends i e (omega (arith, w .ends-room))) in
+          let more-verdicts : take (i + 1) (set verdicts i v) ≡ take i verdicts ++ v ∷ [] = rw add-one (take-suc-set verdicts i v (omega (arith, w .verdicts-room, walk-inside))) in
+          let more-ends : take (i + 1) (set ends i e) ≡ take i ends ++ e ∷ [] = rw add-one (take-suc-set ends i e (omega (arith, w .ends-room, walk-inside))) in
           let ends : e ≡ place next + length (t .outcome .piece) = end ∙ place-start (r .next) (length s) ∙ end-is in
           let verdict : v ≡ verdictNumber (t .outcome .verdict) = number ∙ ap verdictNumber (is-step .verdict) in
           rw p record {
-            inside = omega arith;
+            count = omega (arith, w .count, ap length here);
             behind = omega (arith, w .behind, ap sum here, long);
             symbols-room = long ∙ w .symbols-room;
             verdicts-room = simp length-set (w .verdicts-room);
             ends-room = simp length-set (w .ends-room);
+            lengths = bounds .2;
             known = is-step .known;
             marked = rw (ne-eqb (i + 1) 0 (λ x. omega arith)) (marked-behind (r .next));
             messages-are = rw (front, append-assoc) (rw split at (w .messages-are));
@@ -188,13 +191,13 @@ module _ (ks s : List ℕ) where
     pub verdicts-are : verdicts ≡ numbersOf (outcomes ks s)
     pub ends-are : ends ≡ endsFrom 0 (outcomes ks s)
 
-  pub walk-end : (symbols verdicts ends : List ℕ) (next : Next) (at i : ℕ) → Walk symbols verdicts ends next at i → length ks ≤ i → Walked symbols verdicts ends
+  pub walk-end : (symbols verdicts ends : List ℕ) (next : Next) (at i : ℕ) (rest : List ℕ) → Walk symbols verdicts ends next at i rest → length rest ≡ 0 → Walked symbols verdicts ends
   unfolding sum joined endsFrom
-  walk-end symbols verdicts ends next at i w h =
-      let d : drop i ks ≡ [] = drop-of-length-le ks h in
-      let z : rest i next ≡ [] = rw d (nothing-left (startOf next) (not (eqb i 0)) s) in
+  walk-end symbols verdicts ends next at i [] w h =
+      let z : to-come i next [] ≡ [] = nothing-left (startOf next) (not (eqb i 0)) s in
       record {
-        messages-are = sym (take-all at symbols (omega (arith, w .behind, ap sum d))) ∙ sym (append-nil (take at symbols)) ∙ (rw z at (w .messages-are));
-        verdicts-are = sym (take-all i verdicts (omega (arith, w .verdicts-room))) ∙ sym (append-nil (take i verdicts)) ∙ (rw z at (w .verdicts-are));
-        ends-are = sym (take-all i ends (omega (arith, w .ends-room))) ∙ sym (append-nil (take i ends)) ∙ (rw z at (w .ends-are));
+        messages-are = sym (take-all at symbols (omega (arith, w .behind))) ∙ sym (append-nil (take at symbols)) ∙ (rw z at (w .messages-are));
+        verdicts-are = sym (take-all i verdicts (omega (arith, w .verdicts-room, w .count))) ∙ sym (append-nil (take i verdicts)) ∙ (rw z at (w .verdicts-are));
+        ends-are = sym (take-all i ends (omega (arith, w .ends-room, w .count))) ∙ sym (append-nil (take i ends)) ∙ (rw z at (w .ends-are));
       }
+  walk-end symbols verdicts ends next at i (k ∷ rest) w h = absurd (omega arith)

@@ -2,13 +2,14 @@
 pub mod limits;
 
 ghost use mathlib.Core.Path.{_≡_};
-ghost use Prim.Native.Nat.{_<_, _≤_};
 ghost use mathlib.Core.Bool.{_||_};
-ghost use lib.Dec.{ltb};
+ghost use Prim.Native.Nat.{_≤_};
+ghost use lib.ListN.{length};
 ghost use Rattle.code.specs.Refusals as R;
-ghost use Rattle.code.specs.ReadCall as C;
-ghost use Rattle.code.specs.Limits.{mostBytes, mostSegments};
-ghost use Rattle.code.specs.Sheet.{sheetBytes};
+ghost use Rattle.code.specs.Layout.{sum, Lengths};
+ghost use Rattle.code.specs.Limits.{leastLength, mostLength, mostBytes, mostSegments};
+ghost use Rattle.code.specs.Order.{order, badLength, badCut, orderTest};
+ghost use Rattle.code.specs.ReadCall.{receivedTest, shortBuffers};
 ghost use Rattle.code.specs.declared.Checked.the-variants.{Fine};
 use code::Checked;
 use code::Refusal;
@@ -19,42 +20,86 @@ use limits::MOST_LETTERS;
 use limits::MOST_SEGMENTS;
 
 // x is outside low .. high.
-pub fn outside(low: u32, high: u32, x: u32) -> bool
+pub fn outside(low: usize, high: usize, x: usize) -> bool
     ensures { λ r. ⌜ r ≡ R.outside low high x ⌝ }
 {
     x < low || high < x
 }
 
-// 4B is not a multiple of k, or makes more segments than a strand has.
-fn uneven(k: u32, b: u32) -> bool
-    requires { ⌜ (0 < k) × (b ≤ mostBytes) ⌝ }
-    ensures { λ r. ⌜ r ≡ R.uneven k b ⌝ }
+// A length is outside its limits.
+fn is_outside(k: u16) -> bool
+    ensures { λ r. ⌜ r ≡ R.outside leastLength mostLength k ⌝ }
 {
-    4 * b % k != 0 || MOST_SEGMENTS < 4 * b / k
+    k < LEAST_LENGTH || MOST_LENGTH < k
 }
 
-// The tests 1, 2 and 3 of k and B, where `other` says that the message's length is not B.
-pub fn order_test(k: u32, b: u32, other: bool) -> Checked
-    ensures { λ r. ⌜ r ≡ R.orderTest k b other Fine ⌝ }
+// One of two holds.
+fn either(a: bool, b: bool) -> bool
+    ensures { λ r. ⌜ r ≡ (a || b) ⌝ }
 {
-    if outside(LEAST_LENGTH, MOST_LENGTH, k) {
+    if a {
+        return true;
+    }
+    b
+}
+
+// Some length is outside its limits; every length is looked at, so that many are at once.
+fn bad_length(lengths: &[u16]) -> bool
+    ensures { λ r. ⌜ r ≡ badLength (now (lengths .entry)) ⌝ }
+{
+    let mut bad = false;
+    let mut i = 0;
+    while i < lengths.len() {
+        bad = either(bad, is_outside(lengths[i]));
+        i += 1;
+    }
+    bad
+}
+
+// The sum of lengths within the limits.
+fn sum_of(lengths: &[u16]) -> u16
+    requires { ⌜ Lengths mostLength (now lengths) × (length (now lengths) ≤ mostSegments) ⌝ }
+    ensures { λ r. ⌜ r ≡ sum (now (lengths .entry)) ⌝ }
+{
+    let mut total: u16 = 0;
+    let mut i = 0;
+    while i < lengths.len() {
+        total += lengths[i];
+        i += 1;
+    }
+    total
+}
+
+// There are no lengths or too many, or they do not sum to 4B.
+fn bad_cut(lengths: &[u16], b: u32) -> bool
+    requires { ⌜ Lengths mostLength (now lengths) × (b ≤ mostBytes) ⌝ }
+    ensures { λ r. ⌜ r ≡ badCut (order (now (lengths .entry)) b) ⌝ }
+{
+    outside(1, MOST_SEGMENTS, lengths.len()) || sum_of(lengths) as u32 != 4 * b
+}
+
+// The tests 1, 2 and 3 of an order, where `other` says that the message's length is not B.
+pub fn order_test(lengths: &[u16], b: u32, other: bool) -> Checked
+    ensures { λ r. do let o = order (now (lengths .entry)) b in ⌜ r ≡ orderTest o other Fine ⌝ }
+{
+    if bad_length(lengths) {
         return Checked::Refused(Refusal::SegmentLength);
     }
-    if outside(1, MOST_BYTES, b) || other {
+    if outside(1, MOST_BYTES, b as usize) || other {
         return Checked::Refused(Refusal::MessageSize);
     }
-    if uneven(k, b) {
+    if bad_cut(lengths, b) {
         return Checked::Refused(Refusal::Cut);
     }
     Checked::Fine
 }
 
-// The tests 1 to 4 of n letters received for k and B.
-pub fn received_test(k: u32, b: u32, n: usize) -> Checked
-    ensures { λ r. ⌜ r ≡ C.receivedTest k b n Fine ⌝ }
+// The tests 1 to 4 of n letters received for an order.
+pub fn received_test(lengths: &[u16], b: u32, n: usize) -> Checked
+    ensures { λ r. do let o = order (now (lengths .entry)) b in ⌜ r ≡ receivedTest o n Fine ⌝ }
 {
-    let order = order_test(k, b, false);
-    if let Checked::Refused(r) = order {
+    let tested = order_test(lengths, b, false);
+    if let Checked::Refused(r) = tested {
         return Checked::Refused(r);
     }
     if MOST_LETTERS < n {
@@ -63,12 +108,12 @@ pub fn received_test(k: u32, b: u32, n: usize) -> Checked
     Checked::Fine
 }
 
-// A message buffer of n bytes or a sheet buffer of m bytes is too short for B bytes and l segments.
-pub fn short_buffers(b: usize, l: usize, n: usize, m: usize) -> bool
-    requires { ⌜ l ≤ mostSegments ⌝ }
-    ensures { λ r. ⌜ r ≡ (ltb n b || ltb m (sheetBytes l)) ⌝ }
+// A message buffer of n bytes or a sheet buffer of m bytes is too short for an order.
+pub fn short_buffers(lengths: &[u16], b: u32, n: usize, m: usize) -> bool
+    requires { ⌜ length (now lengths) ≤ mostSegments ⌝ }
+    ensures { λ r. do let o = order (now (lengths .entry)) b in ⌜ r ≡ shortBuffers o n m ⌝ }
 {
-    n < b || m < sheet::sheet_bytes(l)
+    n < b as usize || m < sheet::sheet_bytes(lengths.len())
 }
 
 // The number of a refusal, 1 to 9.

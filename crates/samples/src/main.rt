@@ -91,16 +91,35 @@ fn syndromes(text: &[u8], message: &[u8]) {
     }
 }
 
-// What writing a message of B zero bytes for k and B answers.
-fn written(k: u32, b: u32) {
+fn length(k: u16) {
+    number(k as u64);
+}
+
+// How many lengths a layout has, and its first.
+fn layout(lengths: &[u16]) {
+    word(b" lengths");
+    number(lengths.len() as u64);
+    if 0 < lengths.len() {
+        word(b" first");
+        length(lengths[0]);
+    }
+}
+
+// What writing a message of B zero bytes on a layout answers.
+fn written(lengths: &[u16], b: u32) {
     let message = [0u8; 256];
     let mut out = [0u8; 2048];
-    word(b"write k");
-    number(k as u64);
+    word(b"write");
+    layout(lengths);
     word(b" B");
     number(b as u64);
-    match writer::write(k, b, text::lines::front(&message, b as usize), &mut out) {
-        Wrote::Letters(n) => {
+    match writer::write(
+        lengths,
+        b,
+        text::lines::front(&message, b as usize),
+        &mut out,
+    ) {
+        Wrote::Bytes(n) => {
             word(b" letters");
             number(n as u64);
         }
@@ -112,19 +131,19 @@ fn written(k: u32, b: u32) {
     word(b"\n");
 }
 
-// What reading n letters A for k and B answers.
-fn read(k: u32, b: u32, n: usize) {
+// What reading n letters A on a layout answers.
+fn read(lengths: &[u16], b: u32, n: usize) {
     let letters = [b'A'; 2049];
     let mut message = [0u8; 128];
     let mut sheet = [0u8; 16];
-    word(b"read k");
-    number(k as u64);
+    word(b"read");
+    layout(lengths);
     word(b" B");
     number(b as u64);
     word(b" letters");
     number(n as u64);
     match reader::read(
-        k,
+        lengths,
         b,
         text::lines::front(&letters, n),
         &mut message,
@@ -166,16 +185,17 @@ fn main() {
     width(64);
     syndromes(b"013", &[0, 1, 3]);
     syndromes(b"210", &[2, 1, 0]);
-    written(16, 32);
-    written(32, 32);
-    written(64, 32);
-    written(1, 32);
-    written(2, 32);
-    written(2, 33);
-    written(3, 1);
-    written(65, 32);
-    written(64, 128);
-    written(64, 129);
-    read(64, 128, 2048);
-    read(64, 128, 2049);
+    written(&[16u16; 8], 32);
+    written(&[32u16; 4], 32);
+    written(&[64u16; 2], 32);
+    written(&[1u16; 128], 32);
+    written(&[2u16; 64], 32);
+    written(&[2u16; 66], 33);
+    written(&[3u16; 1], 1);
+    written(&[65u16; 2], 32);
+    written(&[64u16; 8], 128);
+    written(&[64u16; 8], 129);
+    written(&[8, 8, 16, 16, 32, 64, 64, 32, 16, 16, 8, 8], 72);
+    read(&[64u16; 8], 128, 2048);
+    read(&[64u16; 8], 128, 2049);
 }

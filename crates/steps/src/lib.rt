@@ -74,7 +74,7 @@ fn read_summed(
     p: usize,
     marked: bool,
     f: u8,
-    rest: &[usize],
+    rest: &[u16],
     d: usize,
     sums: Summed,
     out: &mut [u8],
@@ -93,7 +93,7 @@ fn read_summed(
 }
 
 // The segment at p, whose marker is whole: one that stands in its place needs no step.
-fn read_marked(s: &[u8], p: usize, marked: bool, f: u8, rest: &[usize], out: &mut [u8]) -> Answer
+fn read_marked(s: &[u8], p: usize, marked: bool, f: u8, rest: &[u16], out: &mut [u8]) -> Answer
     requires { ⌜ AtStart (now s) (now rest) (length (now out)) p f ⌝ }
     requires { ⌜ R.whole marked (drop p (now s)) ≡ true ⌝ }
     ensures { λ r. ⌜ Stepped marked f p (now (s .entry)) (now (rest .entry)) (now (out .entry)) (now (out .exit)) r ⌝ }
@@ -112,7 +112,7 @@ fn read_marked(s: &[u8], p: usize, marked: bool, f: u8, rest: &[usize], out: &mu
 }
 
 // Steps 2 to 10 of the segment at p, whose marker is hit.
-fn read_unmarked(s: &[u8], p: usize, marked: bool, f: u8, rest: &[usize], out: &mut [u8]) -> Answer
+fn read_unmarked(s: &[u8], p: usize, marked: bool, f: u8, rest: &[u16], out: &mut [u8]) -> Answer
     requires { ⌜ AtStart (now s) (now rest) (length (now out)) p f ⌝ }
     requires { ⌜ R.whole marked (drop p (now s)) ≡ false ⌝ }
     ensures { λ r. ⌜ Stepped marked f p (now (s .entry)) (now (rest .entry)) (now (out .entry)) (now (out .exit)) r ⌝ }
@@ -123,7 +123,7 @@ fn read_unmarked(s: &[u8], p: usize, marked: bool, f: u8, rest: &[usize], out: &
 }
 
 // Steps 1 to 10 of the segment at p.
-fn read_at(s: &[u8], p: usize, marked: bool, f: u8, rest: &[usize], out: &mut [u8]) -> Answer
+fn read_at(s: &[u8], p: usize, marked: bool, f: u8, rest: &[u16], out: &mut [u8]) -> Answer
     requires { ⌜ AtStart (now s) (now rest) (length (now out)) p f ⌝ }
     ensures { λ r. ⌜ Stepped marked f p (now (s .entry)) (now (rest .entry)) (now (out .entry)) (now (out .exit)) r ⌝ }
 {
@@ -134,7 +134,7 @@ fn read_at(s: &[u8], p: usize, marked: bool, f: u8, rest: &[usize], out: &mut [u
 }
 
 // The last segment at p, where a clean one is known to stand; letters may follow it.
-fn read_last_clean(s: &[u8], p: usize, f: u8, rest: &[usize], out: &mut [u8]) -> Answer
+fn read_last_clean(s: &[u8], p: usize, f: u8, rest: &[u16], out: &mut [u8]) -> Answer
     requires { ⌜ AtStart (now s) (now rest) (length (now out)) p f ⌝ }
     requires { ⌜ (length (now rest) ≡ 0) × (R.clean (length (now out)) f (drop p (now s)) ≡ true) ⌝ }
     ensures { λ r. ⌜ Stepped true f p (now (s .entry)) (now (rest .entry)) (now (out .entry)) (now (out .exit)) r ⌝ }
@@ -158,7 +158,7 @@ fn read_last_clean(s: &[u8], p: usize, f: u8, rest: &[usize], out: &mut [u8]) ->
 }
 
 // The segment at p, where a clean one is known to stand.
-fn read_clean(s: &[u8], p: usize, f: u8, rest: &[usize], out: &mut [u8]) -> Answer
+fn read_clean(s: &[u8], p: usize, f: u8, rest: &[u16], out: &mut [u8]) -> Answer
     requires { ⌜ AtStart (now s) (now rest) (length (now out)) p f ⌝ }
     requires { ⌜ R.clean (length (now out)) f (drop p (now s)) ≡ true ⌝ }
     ensures { λ r. ⌜ Stepped true f p (now (s .entry)) (now (rest .entry)) (now (out .entry)) (now (out .exit)) r ⌝ }
@@ -170,7 +170,7 @@ fn read_clean(s: &[u8], p: usize, f: u8, rest: &[usize], out: &mut [u8]) -> Answ
 }
 
 // The segment at a start, where one was found, whose message goes to `out`, zeros where it is lost; `rest` is the lengths behind it.
-pub fn read_segment(s: &[u8], start: Next, marked: bool, rest: &[usize], out: &mut [u8]) -> Answer
+pub fn read_segment(s: &[u8], start: Next, marked: bool, rest: &[u16], out: &mut [u8]) -> Answer
     requires { ⌜ Received (now s) × Length (length (now out)) × Lengths longest (now rest) ⌝ }
     requires { ⌜ Known (now s) (length (now out) ∷ now rest) start × Marked start marked ⌝ }
     ensures { λ r. ⌜ SteppedFrom start marked (now (s .entry)) (now (rest .entry)) (now (out .entry)) (now (out .exit)) r ⌝ }

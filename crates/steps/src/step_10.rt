@@ -14,7 +14,7 @@ ghost use Rattle.scan.specs.Scans.{startOf, Known};
 ghost use Rattle.steps.specs.Steps.{lostAt, SteppedLost};
 
 // Step 10: where the segment behind a lost one of k message symbols starts; `rest` is the lengths behind it.
-fn scan_behind(s: &[u8], p: usize, marked: bool, k: usize, rest: &[usize]) -> Next
+fn scan_behind(s: &[u8], p: usize, marked: bool, k: usize, rest: &[u16]) -> Next
     requires { ⌜ Received (now s) ⌝ }
     requires { ⌜ (p ≤ length (now s)) × Length k ⌝ }
     requires { ⌜ Lengths longest (now rest) ⌝ }
@@ -24,11 +24,11 @@ fn scan_behind(s: &[u8], p: usize, marked: bool, k: usize, rest: &[usize]) -> Ne
     if rest.len() == 0 {
         return Next::Nowhere;
     }
-    find_clean(s, p, size_of(marked, k), rest[0], 17, true, 0)
+    find_clean(s, p, size_of(marked, k), rest[0] as usize, 17, true, 0)
 }
 
 // A segment at p that a step loses comes straight to step 10.
-pub fn lost(s: &[u8], p: usize, marked: bool, rest: &[usize], step: u8, out: &mut [u8]) -> Answer
+pub fn lost(s: &[u8], p: usize, marked: bool, rest: &[u16], step: u8, out: &mut [u8]) -> Answer
     requires { ⌜ Received (now s) ⌝ }
     requires { ⌜ (p ≤ length (now s)) × Length (length (now out)) ⌝ }
     requires { ⌜ Lengths longest (now rest) ⌝ }

@@ -19,14 +19,7 @@ ghost use Rattle.message.specs.MessageAnswers.{separatorAs};
 ghost use Rattle.steps.specs.Step8.{separatorIn, settledAt, IsEnd};
 
 // The end that the symbols after the separator don't settle: where a clean segment of the first of the lengths `rest` starts.
-fn end_at_clean(
-    s: &[u8],
-    p: usize,
-    marked: bool,
-    message: &[u8],
-    tail: Tail,
-    rest: &[usize],
-) -> Next
+fn end_at_clean(s: &[u8], p: usize, marked: bool, message: &[u8], tail: Tail, rest: &[u16]) -> Next
     requires { ⌜ Received (now s) × IsTail (now message) tail × Lengths longest (now rest) ⌝ }
     requires { ⌜ (p ≤ length (now s)) × Length (length (now message)) × (0 < length (now rest)) ⌝ }
     requires { ⌜ settledAt marked (now message) p (now s) ≡ false ⌝ }
@@ -36,7 +29,7 @@ fn end_at_clean(
         s,
         p,
         size_of(marked, message.len()),
-        rest[0],
+        rest[0] as usize,
         3,
         false,
         last_of(tail),
@@ -51,7 +44,7 @@ pub fn end_of(
     message: &[u8],
     tail: Tail,
     found: Separator,
-    rest: &[usize],
+    rest: &[u16],
 ) -> Next
     requires { ⌜ Received (now s) × IsTail (now message) tail × Lengths longest (now rest) ⌝ }
     requires { ⌜ (p ≤ length (now s)) × Length (length (now message)) ⌝ }

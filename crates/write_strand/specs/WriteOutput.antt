@@ -10,27 +10,25 @@ use lib.ListN.{take, replicate}
 use Rattle.code.specs.declared.Refusal.the-variants.{MessageSize}
 use Rattle.code.specs.declared.Wrote.{Wrote}
 use Rattle.code.specs.declared.Wrote.the-variants as W
-use Rattle.code.specs.declared.Order.{Order}
-use Rattle.code.specs.declared.Order.the-variants as O
+use Rattle.code.specs.Order.{Order}
 use Rattle.code.specs.Writing.{writeCall}
-use Rattle.text.specs.Lines.{feed, line, behind}
+use Rattle.text.specs.Lines.{feed}
 use Rattle.text.specs.Hex.{hexBytes, decodable}
-use Rattle.console.specs.LabelLine.{orderLine}
+use Rattle.console.specs.LabelLine.{printed}
 use Rattle.console.specs.RefusedLine.{refusedLine}
 
 -- what the writer answers: the letters of its buffer in a line, or the refusal
 unfoldable pub written : Wrote × List ℕ → List ℕ
-written (W.Letters n, strand) = take n strand ++ feed ∷ []
+written (W.Bytes n, strand) = take n strand ++ feed ∷ []
 written (W.Refused r, strand) = refusedLine r
 
 -- the same for an order and a line, with a buffer of zeros: the line is at most 128 bytes in hexadecimal digits, or refused 2
 unfoldable pub writeText : Order → List ℕ → List ℕ
-writeText (O.Is k b) digits = cond (decodable digits 128) (written (writeCall k b (hexBytes digits) (replicate 2048 0))) (refusedLine MessageSize)
-writeText (O.Refused r) digits = refusedLine r
+writeText o digits = cond (decodable digits 128) (written (writeCall o (hexBytes digits) (replicate 2048 0))) (refusedLine MessageSize)
 
 -- what is printed for an input: its first line holds the label, its second the message
 unfoldable pub writeOutput : List ℕ → List ℕ
-writeOutput input = writeText (orderLine (line input)) (line (behind input))
+writeOutput input = printed writeText input
 
 -- room for all that is printed: the buffer and a line feed
 abbrev pub outputRoom : ℕ

@@ -2,32 +2,32 @@
 use mathlib.Core.Path.{_≡_, refl, ap, _∙_}
 use mathlib.Core.Bool.{Bool, true, false}
 use mathlib.Core.List.{List, [], _∷_, map}
-use Prim.Native.Nat.{ℕ, zero, suc, _+_, _-_, _*_, _/_, _%_, _<_, _≤_}
-use native.Mathlib.Nat.{zero-mul, suc-mul, div-add-mod, mul-comm}
+use Prim.Native.Nat.{ℕ, zero, suc, _*_, _<_, _≤_}
+use native.Mathlib.Nat.{mul-suc}
 use native.Mathlib.Omega.{arith}
-use lib.ListN.{length, getD, drop, replicate, length-append, length-drop, take-append-drop}
+use lib.ListN.{length, getD, drop, length-append, length-drop, take-append-drop}
 use lib.Seq.{take-at, drop-at, length-take-le}
 use Rattle.code.specs.Symbols.{Below}
 use Rattle.code.specs.laws.Below.{below-append, below-take, below-drop}
-use Rattle.code.specs.Layers.{width}
-use Rattle.code.specs.Segment.{segment, lastOf, size}
+use Rattle.code.specs.Segment.{segment, lastOf}
 use Rattle.code.specs.laws.Segment.{length-segment, segment-below}
-use Rattle.code.specs.Layout.{sum, Lengths, done, more, cut, joined, written, strand, extent, layoutOf}
+use Rattle.code.specs.Layout.{sum, Lengths, done, more, cut, joined, written, strand, extent}
 
 -- every message of a list is below n
 pub data Each (P : List ℕ → Type 0) : List (List ℕ) → Type 0 where
   none : Each P []
   both : {m : List ℕ} {ms : List (List ℕ)} → P m → Each P ms → Each P (m ∷ ms)
 
-pub sum-equal : (l k : ℕ) → sum (replicate l k) ≡ l * k
+-- the sum of a layout's lengths
+pub sum-most : {most : ℕ} (ks : List ℕ) → Lengths most ks → sum ks ≤ most * length ks
 unfolding sum
-sum-equal zero k = omega (arith, zero-mul k)
-sum-equal (suc l) k = omega (arith, suc-mul l k, sum-equal l k)
+sum-most [] done = omega arith
+sum-most {most} (k ∷ ks) (more h m hs) = omega (arith, sum-most ks hs, mul-suc most (length ks))
 
--- equal lengths within bounds are a layout's
-pub equal-lengths : {most : ℕ} (l k : ℕ) → 2 ≤ k → k ≤ most → Lengths most (replicate l k)
-equal-lengths zero k h m = done
-equal-lengths (suc l) k h m = more h m (equal-lengths l k h m)
+-- lengths within one bound are within a larger one
+pub lengths-within : {most more-than : ℕ} {ks : List ℕ} → Lengths most ks → most ≤ more-than → Lengths more-than ks
+lengths-within done e = done
+lengths-within (more h m hs) e = more h (omega arith) (lengths-within hs e)
 
 -- each length of a layout is within its bounds
 pub lengths-at : {most : ℕ} (ks : List ℕ) (i : ℕ) → Lengths most ks → i < length ks → (2 ≤ getD ks i 0) × (getD ks i 0 ≤ most)
@@ -80,18 +80,3 @@ pub written-below : (marked : Bool) (f : ℕ) (ms : List (List ℕ)) → Each (B
 unfolding written
 written-below marked f [] none = λ i. omega arith
 written-below marked f (m ∷ ms) (both h hs) = below-append (segment marked f m) (written true (lastOf m) ms) (segment-below marked f m h) (written-below true (lastOf m) ms hs)
-
--- l equal lengths: l × (k + t + 6) − 2
-extent-marked : (l k : ℕ) → extent true (replicate l k) ≡ l * (k + width k + 6)
-unfolding extent size
-extent-marked zero k = omega (arith, zero-mul (k + width k + 6))
-extent-marked (suc l) k = omega (arith, extent-marked l k, suc-mul l (k + width k + 6))
-
-pub extent-equal : (l k : ℕ) → 0 < l → extent false (replicate l k) ≡ l * (k + width k + 6) - 2
-unfolding extent size
-extent-equal zero k h = absurd (omega arith)
-extent-equal (suc l) k h = omega (arith, extent-marked l k, suc-mul l (k + width k + 6))
-
--- the equal layout of B bytes holds their 4B symbols
-pub layout-sum : (k b : ℕ) → 4 * b % k ≡ 0 → sum (layoutOf k b) ≡ 4 * b
-layout-sum k b e = sum-equal (4 * b / k) k ∙ omega (arith, div-add-mod (4 * b) k, mul-comm (4 * b / k) k)

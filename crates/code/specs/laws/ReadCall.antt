@@ -24,10 +24,11 @@ use Rattle.code.specs.declared.Checked.{Checked}
 use Rattle.code.specs.declared.Checked.the-variants.{Fine, Refused}
 use Rattle.code.specs.Symbols.{letterOf, letters, legible, decoded}
 use Rattle.code.specs.laws.Symbols.{whole-letters, whole-length, length-bytes}
-use Rattle.code.specs.Layout.{sum, joined, layoutOf}
+use Rattle.code.specs.Layout.{sum, joined}
 use Rattle.code.specs.Limits.{mostLetters}
-use Rattle.code.specs.Refusals.{refuse, outside, orderTest}
-use Rattle.code.specs.laws.Refusals.{order-fine, order-then, order-refused}
+use Rattle.code.specs.Refusals.{refuse, outside}
+use Rattle.code.specs.Order.{Order, orderTest, Taken}
+use Rattle.code.specs.laws.Order.{order-fine, order-then, order-refused}
 use Rattle.code.specs.Sheet.{sheetOf, sheetBytes}
 use Rattle.code.specs.Strands.{outcomes}
 use Rattle.code.specs.laws.Strands.{joined-pieces}
@@ -43,72 +44,72 @@ refused : (x : Bool) (r u : Refusal) (next : Checked) → refuse x r Fine ≡ Re
 refused true r u next e = e
 refused false r u next e = let z : _≡_ {A = ℕ} 0 1 = cc in absurd (omega arith)
 
-module _ (k b n : ℕ) where
+module _ (o : Order) (n : ℕ) where
   -- what holds of letters that tests 1 to 4 take
-  pub received-fine : receivedTest k b n Fine ≡ Fine → (orderTest k b false Fine ≡ Fine) × (n ≤ mostLetters)
-  received-fine e = go (orderTest k b false Fine) refl
+  pub received-fine : receivedTest o n Fine ≡ Fine → (Taken o) × (n ≤ mostLetters)
+  received-fine e = go (orderTest o false Fine) refl
     where
-      go : (c : Checked) → orderTest k b false Fine ≡ c → (orderTest k b false Fine ≡ Fine) × (n ≤ mostLetters)
-      go Fine p = (p, ltb-false mostLetters n (fine (overlong n) Overlong (sym (order-then k b false (refuse (overlong n) Overlong Fine) p) ∙ e)))
-      go (Refused u) p = let q : Fine ≡ Refused u = sym e ∙ order-refused k b false u (refuse (overlong n) Overlong Fine) p in let z : _≡_ {A = ℕ} 0 1 = cc in absurd (omega arith)
+      go : (c : Checked) → orderTest o false Fine ≡ c → (Taken o) × (n ≤ mostLetters)
+      go Fine p = (p, ltb-false mostLetters n (fine (overlong n) Overlong (sym (order-then o false (refuse (overlong n) Overlong Fine) p) ∙ e)))
+      go (Refused u) p = let q : Fine ≡ Refused u = sym e ∙ order-refused o false u (refuse (overlong n) Overlong Fine) p in let z : _≡_ {A = ℕ} 0 1 = cc in absurd (omega arith)
 
-  pub fine-received : orderTest k b false Fine ≡ Fine → n ≤ mostLetters → receivedTest k b n Fine ≡ Fine
-  fine-received o h = order-then k b false (refuse (overlong n) Overlong Fine) o ∙ rw (le-ltb mostLetters n h)
+  pub fine-received : Taken o → n ≤ mostLetters → receivedTest o n Fine ≡ Fine
+  fine-received t h = order-then o false (refuse (overlong n) Overlong Fine) t ∙ rw (le-ltb mostLetters n h)
 
   -- a further test behind tests 1 to 4 that are not met
-  pub received-then : (next : Checked) → receivedTest k b n Fine ≡ Fine → receivedTest k b n next ≡ next
+  pub received-then : (next : Checked) → receivedTest o n Fine ≡ Fine → receivedTest o n next ≡ next
   received-then next e =
       let p = received-fine e in
-      order-then k b false (refuse (overlong n) Overlong next) (p .0) ∙ rw (le-ltb mostLetters n (p .1))
+      order-then o false (refuse (overlong n) Overlong next) (p .0) ∙ rw (le-ltb mostLetters n (p .1))
 
   -- a further test behind tests 1 to 4 of which one is met
-  pub received-refused : (u : Refusal) (next : Checked) → receivedTest k b n Fine ≡ Refused u → receivedTest k b n next ≡ Refused u
-  received-refused u next e = go (orderTest k b false Fine) refl
+  pub received-refused : (u : Refusal) (next : Checked) → receivedTest o n Fine ≡ Refused u → receivedTest o n next ≡ Refused u
+  received-refused u next e = go (orderTest o false Fine) refl
     where
-      go : (c : Checked) → orderTest k b false Fine ≡ c → receivedTest k b n next ≡ Refused u
-      go Fine p = order-then k b false (refuse (overlong n) Overlong next) p ∙ refused (overlong n) Overlong u next (sym (order-then k b false (refuse (overlong n) Overlong Fine) p) ∙ e)
-      go (Refused v) p = order-refused k b false v (refuse (overlong n) Overlong next) p ∙ (sym (order-refused k b false v (refuse (overlong n) Overlong Fine) p) ∙ e)
+      go : (c : Checked) → orderTest o false Fine ≡ c → receivedTest o n next ≡ Refused u
+      go Fine p = order-then o false (refuse (overlong n) Overlong next) p ∙ refused (overlong n) Overlong u next (sym (order-then o false (refuse (overlong n) Overlong Fine) p) ∙ e)
+      go (Refused v) p = order-refused o false v (refuse (overlong n) Overlong next) p ∙ (sym (order-refused o false v (refuse (overlong n) Overlong Fine) p) ∙ e)
 
 -- The tests behind 1 to 4, in their order
 
-module _ (k b : ℕ) (cs : List ℕ) (received : receivedTest k b (length cs) Fine ≡ Fine) where
+module _ (o : Order) (cs : List ℕ) (received : receivedTest o (length cs) Fine ≡ Fine) where
   module _ (n m : ℕ) where
-    pub read-short : shortBuffers k b n m ≡ true → readTest k b cs n m ≡ Refused ShortBuffer
-    read-short e = received-then k b (length cs) _ received ∙ rw e
+    pub read-short : shortBuffers o n m ≡ true → readTest o cs n m ≡ Refused ShortBuffer
+    read-short e = received-then o (length cs) _ received ∙ rw e
 
-    pub read-foreign : (i : ℕ) → shortBuffers k b n m ≡ false → decoded cs ≡ D.Foreign i → readTest k b cs n m ≡ Refused (ForeignLetter i)
-    read-foreign i e d = received-then k b (length cs) _ received ∙ rw (e, d)
+    pub read-foreign : (i : ℕ) → shortBuffers o n m ≡ false → decoded cs ≡ D.Foreign i → readTest o cs n m ≡ Refused (ForeignLetter i)
+    read-foreign i e d = received-then o (length cs) _ received ∙ rw (e, d)
 
-    pub read-fine : shortBuffers k b n m ≡ false → decoded cs ≡ D.Whole → readTest k b cs n m ≡ Fine
-    read-fine e d = received-then k b (length cs) _ received ∙ rw (e, d)
+    pub read-fine : shortBuffers o n m ≡ false → decoded cs ≡ D.Whole → readTest o cs n m ≡ Fine
+    read-fine e d = received-then o (length cs) _ received ∙ rw (e, d)
 
   module _ (i : ℕ) where
-    pub piece-foreign : (j : ℕ) → decoded cs ≡ D.Foreign j → pieceTest k b cs i ≡ Refused (ForeignLetter j)
-    piece-foreign j d = received-then k b (length cs) _ received ∙ rw d
+    pub piece-foreign : (j : ℕ) → decoded cs ≡ D.Foreign j → pieceTest o cs i ≡ Refused (ForeignLetter j)
+    piece-foreign j d = received-then o (length cs) _ received ∙ rw d
 
-    pub piece-outside : decoded cs ≡ D.Whole → outside 1 (length (layoutOf k b)) i ≡ true → pieceTest k b cs i ≡ Refused NoSuchSegment
-    piece-outside d e = received-then k b (length cs) _ received ∙ rw (d, e)
+    pub piece-outside : decoded cs ≡ D.Whole → outside 1 (length (o .lengths)) i ≡ true → pieceTest o cs i ≡ Refused NoSuchSegment
+    piece-outside d e = received-then o (length cs) _ received ∙ rw (d, e)
 
-    pub piece-fine : decoded cs ≡ D.Whole → outside 1 (length (layoutOf k b)) i ≡ false → pieceTest k b cs i ≡ Fine
-    piece-fine d e = received-then k b (length cs) _ received ∙ rw (d, e)
+    pub piece-fine : decoded cs ≡ D.Whole → outside 1 (length (o .lengths)) i ≡ false → pieceTest o cs i ≡ Fine
+    piece-fine d e = received-then o (length cs) _ received ∙ rw (d, e)
 
 not-foreign : (d : Decoded) (next : Checked) → foreignTest d next ≡ Fine → (d ≡ D.Whole) × (next ≡ Fine)
 not-foreign D.Whole next e = (refl, e)
 not-foreign (D.Foreign j) next e = let z : _≡_ {A = ℕ} 0 1 = cc in absurd (omega arith)
 
 -- what holds of a call that is taken: tests 1 to 4 are not met, and neither is what follows
-pub received-taken : (k b n : ℕ) (next : Checked) → receivedTest k b n next ≡ Fine → (receivedTest k b n Fine ≡ Fine) × (next ≡ Fine)
-received-taken k b n next e = go (receivedTest k b n Fine) refl
+pub received-taken : (o : Order) (n : ℕ) (next : Checked) → receivedTest o n next ≡ Fine → (receivedTest o n Fine ≡ Fine) × (next ≡ Fine)
+received-taken o n next e = go (receivedTest o n Fine) refl
   where
-    go : (c : Checked) → receivedTest k b n Fine ≡ c → (receivedTest k b n Fine ≡ Fine) × (next ≡ Fine)
-    go Fine p = (p, sym (received-then k b n next p) ∙ e)
-    go (Refused u) p = let q : Fine ≡ Refused u = sym e ∙ received-refused k b n u next p in let z : _≡_ {A = ℕ} 0 1 = cc in absurd (omega arith)
+    go : (c : Checked) → receivedTest o n Fine ≡ c → (receivedTest o n Fine ≡ Fine) × (next ≡ Fine)
+    go Fine p = (p, sym (received-then o n next p) ∙ e)
+    go (Refused u) p = let q : Fine ≡ Refused u = sym e ∙ received-refused o n u next p in let z : _≡_ {A = ℕ} 0 1 = cc in absurd (omega arith)
 
 -- a piece call that is taken has an order that is taken and letters alone
-pub piece-taken : (k b : ℕ) (cs : List ℕ) (i : ℕ) → pieceTest k b cs i ≡ Fine → (orderTest k b false Fine ≡ Fine) × (decoded cs ≡ D.Whole)
-piece-taken k b cs i e =
-    let p = received-taken k b (length cs) _ e in
-    (received-fine k b (length cs) (p .0) .0, not-foreign (decoded cs) _ (p .1) .0)
+pub piece-taken : (o : Order) (cs : List ℕ) (i : ℕ) → pieceTest o cs i ≡ Fine → (Taken o) × (decoded cs ≡ D.Whole)
+piece-taken o cs i e =
+    let p = received-taken o (length cs) _ e in
+    (received-fine o (length cs) (p .0) .0, not-foreign (decoded cs) _ (p .1) .0)
 
 -- the sheet of marks has a byte for four of them or fewer
 pub length-sheet : (marks : List ℕ) → length (sheetOf marks) ≡ sheetBytes (length marks)
@@ -142,23 +143,23 @@ letters-drop zero s = refl
 letters-drop (suc n) [] = refl
 letters-drop (suc n) (x ∷ s) = letters-drop n s
 
--- the pieces of an order's layout, joined, are all that was received
-all-pieces : (l k : ℕ) (s : List ℕ) → 1 ≤ l → joined (piecesOf (outcomes (replicate l k) s)) ≡ s
-all-pieces zero k s h = absurd (omega arith)
-all-pieces (suc l) k s h = joined-pieces false 0 k (replicate l k) s s
+-- the pieces of a layout with a segment, joined, are all that was received
+all-pieces : (ks s : List ℕ) → 1 ≤ length ks → joined (piecesOf (outcomes ks s)) ≡ s
+all-pieces [] s h = absurd (omega arith)
+all-pieces (k ∷ ks) s h = joined-pieces false 0 k ks s s
 
-module _ (k b : ℕ) (cs : List ℕ) (o : orderTest k b false Fine ≡ Fine) (w : decoded cs ≡ D.Whole) where
-  pieces-legible : joined (piecesOf (outcomesOf k b cs)) ≡ legible cs
-  pieces-legible = all-pieces (4 * b / k) k (legible cs) (order-fine k b false o .some-segments)
+module _ (o : Order) (cs : List ℕ) (t : Taken o) (w : decoded cs ≡ D.Whole) where
+  pieces-legible : joined (piecesOf (outcomesOf o cs)) ≡ legible cs
+  pieces-legible = all-pieces (o .lengths) (legible cs) (order-fine o false t .some-segments)
 
   -- the piece behind the first i pieces lies inside the caller's letters
-  pub piece-inside : (i : ℕ) → pieceStart (outcomesOf k b cs) i + pieceLength (outcomesOf k b cs) i ≤ length cs
-  piece-inside i = omega (arith, part-inside (piecesOf (outcomesOf k b cs)) i, ap length pieces-legible, whole-length cs w)
+  pub piece-inside : (i : ℕ) → pieceStart (outcomesOf o cs) i + pieceLength (outcomesOf o cs) i ≤ length cs
+  piece-inside i = omega (arith, part-inside (piecesOf (outcomesOf o cs)) i, ap length pieces-legible, whole-length cs w)
 
   -- the letters of the i-th piece, from 1, are those of its outcome
-  pub piece-letters : (i : ℕ) → pieceOf (outcomesOf k b cs) cs i ≡ letters (getD (piecesOf (outcomesOf k b cs)) (i - 1) [])
+  pub piece-letters : (i : ℕ) → pieceOf (outcomesOf o cs) cs i ≡ letters (getD (piecesOf (outcomesOf o cs)) (i - 1) [])
   piece-letters i =
-      let ps = piecesOf (outcomesOf k b cs) in
+      let ps = piecesOf (outcomesOf o cs) in
       let n = sum (take (i - 1) (map length ps)) in
       let x = getD (map length ps) (i - 1) 0 in
       let same : cs ≡ letters (joined ps) = sym (whole-letters cs w) ∙ ap letters (sym pieces-legible) in

@@ -1,16 +1,16 @@
 -- How many letters the strand of an order within the limits has, written and received.
---   extent-most    equal segments within the limits
---   equal-order    the segments of an order that is taken are such
---   written-most   the written strand has at most 1,150 letters
---   readable       one that keeps the one-edit conditions has at most 1,214, and no foreign letter
-use mathlib.Core.Path.{_≡_, sym, ap, _∙_}
+--   width-line    t grows slowly with k
+--   extent-line   so does the strand with its symbols and segments
+--   extent-most   the written strand has at most 1,198 letters
+--   readable      one that keeps the one-edit conditions has at most 1,262, and no foreign letter
+use mathlib.Core.Path.{_≡_, refl, ap, _∙_}
 use mathlib.Core.Bool.{Bool, true, false}
 use mathlib.Core.List.{List, [], _∷_, map}
-use Prim.Native.Nat.{ℕ, suc, _+_, _-_, _*_, _/_, _≤_, _<_}
-use native.Mathlib.Nat.{mul-add, mul-le-mul-left}
-use native.Mathlib.Decide.{decLe}
+use Prim.Native.Nat.{ℕ, zero, suc, _+_, _*_, _^_, _≤_, _<_}
+use native.Mathlib.Nat.{pow-succ', lt-of-not-le}
 use native.Mathlib.Omega.{arith}
-use lib.ListN.{length, replicate, length-append, length-take, length-drop, length-set, length-replicate}
+use lib.ListN.{length, length-append, length-take, length-drop, length-set}
+use lib.Pow.{pow-pos}
 use Rattle.code.specs.declared.Edit.{Edit}
 use Rattle.code.specs.declared.Edit.the-variants.{None, Sub, Del, Ins}
 use Rattle.code.specs.declared.Decoded.the-variants as D
@@ -19,15 +19,13 @@ use Rattle.code.specs.laws.Symbols.{symbols-below, length-symbols, decod
 use Rattle.code.specs.laws.Below.{below-append}
 use Rattle.code.specs.Layers.{width}
 use Rattle.code.specs.laws.Layers.{width-least}
-use Rattle.code.specs.Segment.{segment, lastOf}
+use Rattle.code.specs.Segment.{segment, lastOf, size}
 use Rattle.code.specs.laws.Segment.{length-segment, segment-below}
-use Rattle.code.specs.Layout.{sum, cut, extent, layoutOf}
-use Rattle.code.specs.laws.Layout.{Each, none, both, cut-lengths, length-cut, cut-below, extent-equal, layout-sum}
-use Rattle.code.specs.declared.Checked.the-variants.{Fine}
-use Rattle.code.specs.Limits.{mostSegments, mostWritten}
-use Rattle.code.specs.Refusals.{orderTest}
-use Rattle.code.specs.laws.Refusals.{Ordered, order-fine}
-use Rattle.code.specs.Bounds.{Equal}
+use Rattle.code.specs.Layout.{sum, cut, extent, Lengths, done, more}
+use Rattle.code.specs.laws.Layout.{Each, none, both, cut-lengths, length-cut, cut-below}
+use Rattle.code.specs.Limits.{mostLength, mostSegments, mostWritten}
+use Rattle.code.specs.Order.{Order}
+use Rattle.code.specs.laws.Order.{Ordered}
 use Rattle.code.specs.Edits.{applied, Fits}
 use Rattle.code.specs.laws.EditedBlock.{below-set, below-leave, below-put}
 use Rattle.code.specs.Conditions.{received, Allowed, OneEdit}
@@ -59,52 +57,55 @@ received-below marked f (m ∷ ms) (e ∷ es) (both b bs) h =
     below-append (applied e (segment marked f m)) (received true (lastOf m) ms es) (applied-below e (segment marked f m) (h .0) (segment-below marked f m b))
     (received-below true (lastOf m) ms es bs (h .2))
 
--- the letters of l segments of k symbols with t syndrome symbols each, where k is at least `low`
-length-most : (low k l t : ℕ) → low ≤ k → width k ≤ t → 0 < l → l * low ≤ l * k × (extent false (replicate l k) + 2 ≤ l * k + l * t + l * 6)
-length-most low k l t h w some =
-    let p : l * (k + width k + 6) ≡ l * k + l * width k + l * 6 = mul-add l (k + width k) 6 ∙ ap (λ (x : ℕ). x + l * 6) (mul-add l k (width k)) in
-    let q : l * width k ≤ l * t = mul-le-mul-left l w in
-    (mul-le-mul-left l h, omega (arith, extent-equal l k some))
-
--- equal segments within the limits have at most `mostWritten` letters: 64 of 8 symbols have so many
-pub extent-most : (k l : ℕ) → Equal k l → extent false (replicate l k) ≤ mostWritten
-extent-most k l e = go (decLe k 8) (decLe k 16)
+-- a power of two is above a line
+power-line : (j : ℕ) → 4 * j ≤ 2 ^ j + 4
+power-line zero = omega arith
+power-line (suc zero) = omega arith
+power-line (suc (suc zero)) = omega arith
+power-line (suc (suc (suc j))) = omega (arith, power-line (suc (suc j)), pow-succ' 2 (suc (suc j)), four-le j)
   where
-    go : Dec (k ≤ 8) → Dec (k ≤ 16) → extent false (replicate l k) ≤ mostWritten
-    go (yes h) d = omega (arith, length-most 0 k l 4 (omega arith) (width-least k .least 4 (omega arith)) (e .some-segments))
-    go (no h) (yes g) = omega (arith, length-most 9 k l 5 (omega arith) (width-least k .least 5 (omega arith)) (e .some-segments))
-    go (no h) (no g) = omega (arith, length-most 17 k l 7 (omega arith) (width-least k .least 7 (omega arith)) (e .some-segments))
+    four-le : (j : ℕ) → 4 ≤ 2 ^ (suc (suc j))
+    four-le j = omega (arith, pow-succ' 2 (suc j), pow-succ' 2 j, pow-pos j)
 
--- the segments of an order that is taken are equal ones within the limits
-pub equal-order : (k b : ℕ) (other : Bool) → Ordered k b other → Equal k (4 * b / k)
-equal-order k b other o =
-    record {
-      least-length = o .least-length;
-      most-length = o .most-length;
-      some-segments = o .some-segments;
-      most-segments = o .most-segments;
-      most-symbols = omega (arith, o .whole, o .most-bytes);
-    }
+-- t grows slowly: 4t is at most k + 11
+width-line : (k : ℕ) → 2 ≤ k → 4 * width k ≤ k + 11
+width-line k h = go (width k) refl
+  where
+    go : (t : ℕ) → width k ≡ t → 4 * width k ≤ k + 11
+    go zero e = omega arith
+    go (suc zero) e = omega arith
+    go (suc (suc j)) e =
+        let p : 2 ^ suc j < 2 * k = lt-of-not-le (λ q. omega (arith, width-least k .least (suc j) q)) in
+        omega (arith, power-line j, p, pow-succ' 2 j)
+
+-- the segments of a layout, each with a marker
+pub extent-line : {most : ℕ} (ks : List ℕ) → Lengths most ks → 4 * extent true ks ≤ 5 * sum ks + 35 * length ks
+unfolding extent sum size
+extent-line [] done = omega arith
+extent-line (k ∷ ks) (more h m hs) = omega (arith, extent-line ks hs, width-line k h)
 
 -- the strand of an order that is taken has at most `mostWritten` letters
-pub written-most : (k b : ℕ) (other : Bool) → orderTest k b other Fine ≡ Fine → extent false (layoutOf k b) ≤ mostWritten
-written-most k b other e = extent-most k (4 * b / k) (equal-order k b other (order-fine k b other e))
+pub extent-most : (o : Order) (other : Bool) → Ordered o other → extent false (o .lengths) ≤ mostWritten
+unfolding extent sum size
+extent-most o other h = go (o .lengths) (h .lengths) (h .some-segments) (h .most-segments) (h .whole)
+  where
+    go : (ks : List ℕ) → Lengths mostLength ks → 1 ≤ length ks → length ks ≤ mostSegments → sum ks ≡ 4 * o .b → extent false ks ≤ mostWritten
+    go [] hs some most whole = absurd (omega arith)
+    go (k ∷ ks) hs some most whole = omega (arith, extent-line (k ∷ ks) hs, h .most-bytes)
 
--- what a strand that keeps the conditions is for k and B within the limits
+-- what a strand that keeps the conditions is, for an order within the limits
 pub record Readable (s : List ℕ) : Type 0 where
   pub short : length s ≤ mostWritten + mostSegments
   pub small : Below 4 s
   pub no-foreign : decoded (letters s) ≡ D.Whole
 
-pub readable : (k b : ℕ) (other : Bool) (bs s : List ℕ) → Ordered k b other → length bs ≡ b → OneEdit (cut (layoutOf k b) (symbols bs)) s → Readable s
-readable k b other bs s o n e =
-    let ks = layoutOf k b in
+pub readable : (o : Order) (other : Bool) (bs s : List ℕ) → Ordered o other → length bs ≡ o .b → OneEdit (cut (o .lengths) (symbols bs)) s → Readable s
+readable o other bs s h n e =
+    let ks = o .lengths in
     let x = symbols bs in
-    let l : length x ≡ sum ks = length-symbols bs ∙ rw n (sym (layout-sum k b (o .multiple))) in
+    let l : length x ≡ sum ks = length-symbols bs ∙ omega (arith, n, h .whole) in
     let w = received-length false 0 (cut ks x) (e .edits) in
     let c = cut-lengths ks x l in
     let r : length (received false 0 (cut ks x) (e .edits)) ≤ extent false ks + length ks = omega (arith, w, ap (extent false) c, length-cut ks x) in
-    let z = extent-most k (4 * b / k) (equal-order k b other o) in
-    let q = length-replicate (4 * b / k) k in
     let d : Below 4 s = rw (e .stretches) at (received-below false 0 (cut ks x) (e .edits) (cut-below ks x (symbols-below bs)) (e .allowed)) in
-    record { short = omega (arith, r, z, q, ap length (e .stretches)); small = d; no-foreign = decoded-letters s d }
+    record { short = omega (arith, r, extent-most o other h, h .most-segments, ap length (e .stretches)); small = d; no-foreign = decoded-letters s d }

@@ -1,5 +1,6 @@
 use mathlib.Core.Path.{sym, ap, _∙_}
 use borrow.Author.Needs.{needs}
+use Rattle.code.specs.Order.{order}
 use Rattle.pieces.proofs.Calls.{placed}
 use Rattle.dnalm.specs.CallAnswers.{fromLocated}
 use Rattle.dnalm.proofs.dnalm_piece.Statement.{statement}
@@ -8,8 +9,8 @@ use Rattle.dnalm.proofs.dnalm_piece.Tie as tie
 -- a piece ends behind its start
 ordered : tie.Need-sub-t10
 ordered c =
-    let a = c .before .before .before .before .before .args in
-    placed (a .k) (a .b) (a .letters .now) (a .segment) _ _ (sym (c .before .before .before .locate .ensures) ∙ c .before .located .given .1) .ordered
+    let a = c .before .before .before .before .before .before .args in
+    placed (order (a .lengths .now) (a .b)) (a .letters .now) (a .segment) _ _ (sym (c .before .before .before .locate .ensures) ∙ c .before .located .given .1) .ordered
 
 -- a call that is taken
 returns : tie.Need-returns

@@ -4,25 +4,17 @@ use Rattle.dnalm.proofs.Answers.{told}
 use Rattle.dnalm.proofs.dnalm_write.Statement.{statement}
 use Rattle.dnalm.proofs.dnalm_write.Tie as tie
 
--- a writing that is taken
-returns : tie.Need-returns
-returns c = told fromWrote _ _ _ _ (c .before .wrote .given .1) (c .before .before .before .before .before .write .ensures)
+write-requires : tie.Need-write-requires
+write-requires c κs = search needs
 
--- a refused one
-returns-2 : tie.Need-returns-2
-returns-2 c = rw (c .before .number-of .ensures, c .place-of .ensures) (told fromWrote _ _ _ _ (c .before .before .before .wrote2 .given .1) (c .before .before .before .before .before .before .before .write .ensures))
+told-requires : tie.Need-told-requires
+told-requires c κs = search needs
+
+same-length : tie.Need-same-length
+same-length c = search needs
+
+returns : tie.Need-returns
+returns c = told fromWrote _ _ _ _ (c .told .ensures) (c .before .before .before .write .ensures)
 
 pub dnalm-write-spec : {M : Type 1} → statement M
-dnalm-write-spec =
-    tie.close
-    (tie.spec
-    (λ c κs. search needs)
-    (λ c. search needs)
-    (λ c. search needs)
-    (λ c κs. search needs)
-    (λ c. search needs)
-    (λ c κs. search needs)
-    (λ c. search needs)
-    returns
-    (λ c. search needs)
-    returns-2)
+dnalm-write-spec = tie.close (tie.spec write-requires told-requires same-length returns)

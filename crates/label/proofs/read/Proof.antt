@@ -1,47 +1,50 @@
-use mathlib.Core.Path.{_≡_, sym, _∙_}
-use mathlib.Core.Bool.{false}
-use Prim.Native.Nat.{ℕ, _/_, _≤_}
-use mathlib.Core.List.{List}
+use mathlib.Core.Path.{sym, _∙_}
 use native.Mathlib.Omega.{arith}
 use borrow.Author.Needs.{needs}
-use lib.Bits.{bitAnd}
+use borrow.Author.Tests.{ltb-false}
 use lib.ListN.{length}
-use Rattle.code.specs.declared.Checked.{Checked}
-use Rattle.code.specs.declared.Checked.the-variants.{Fine}
-use Rattle.code.specs.declared.Order.the-variants as O
-use Rattle.code.specs.Refusals.{unlessRefused, orderTest}
-use Rattle.code.specs.Label.{numberOf4, orderOf}
-use Rattle.code.specs.laws.Label.{order-short, order-edition, order-spare, order-tested}
-use Rattle.label.proofs.Bits.{mask-byte, mask-length, mask-spare}
+use Rattle.code.specs.Label as L
+use Rattle.code.specs.laws.Label.{needed-least}
+use Rattle.label.proofs.Calls.{read-short, read-unknown}
 use Rattle.label.proofs.read.Statement.{statement}
 use Rattle.label.proofs.read.Tie as tie
 
--- the answer to t, the outcome of the tests of k and B, once edition and spare bits are tested
-answer : (bs : List ℕ) (n : ℕ) (t : Checked) → n ≡ numberOf4 bs → 4 ≤ length bs → n / 268435456 ≡ 1 → bitAnd n 8191 ≡ 0 → orderTest (bitAnd (n / 2097152) 127) (bitAnd (n / 8192) 255) false Fine ≡ t → unlessRefused t (O.Is (bitAnd (n / 2097152) 127) (bitAnd (n / 8192) 255)) O.Refused ≡ orderOf bs
-answer bs n t e h edition spare tested =
-    rw (← tested, mask-length (n / 2097152), mask-byte (n / 8192), e)
-    (sym (order-tested bs h (rw e at edition) (rw e at (sym (mask-spare n) ∙ spare))))
+returns : tie.Need-returns
+returns c = c .refused .ensures ∙ sym (read-short (c .before .before .before .before .args .bytes .now) (sym (c .before .before .is-short .ensures) ∙ c .before .if1 .taken))
+
+number-at-requires : tie.Need-number-at-requires
+number-at-requires c κs =
+    let label = c .before .before .before .args .bytes .now in
+    omega (arith, ltb-false (length label) (L.needed label) (sym (c .before .is-short .ensures) ∙ c .if1 .left), needed-least label)
+
+read2-requires : tie.Need-read2-requires
+read2-requires c κs =
+    let label = c .before .before .before .before .before .args .bytes .now in
+    (ltb-false (length label) (L.needed label) (sym (c .before .before .before .is-short .ensures) ∙ c .before .before .if1 .left), sym (c .before .number-at .ensures) ∙ c .if2 .taken)
+
+returns-3 : tie.Need-returns-3
+returns-3 c =
+    let n = c .before .before .before .number-at .ensures in
+    c .refused2 .ensures
+    ∙ sym (read-unknown (c .before .before .before .before .before .before .before .args .bytes .now) (sym (c .before .before .before .before .before .is-short .ensures) ∙ c .before .before .before .before .if1 .left) (λ e. c .before .before .if2 .left (n ∙ e)) (λ e. c .before .if3 .taken (n ∙ e)))
+
+read1-requires : tie.Need-read1-requires
+read1-requires c κs =
+    let label = c .before .before .before .before .before .before .args .bytes .now in
+    let e = sym (c .before .before .number-at .ensures) ∙ c .if3 .left in
+    (rw e at (ltb-false (length label) (L.needed label) (sym (c .before .before .before .before .is-short .ensures) ∙ c .before .before .before .if1 .left)), e)
 
 pub read-spec : {M : Type 1} → statement M
 read-spec =
     tie.close
     (tie.spec
-    (λ c. sym (order-short (c .before .before .args .bytes .now) (c .if1 .taken)))
     (λ c κs. search needs)
-    (λ c.
-    let bs = c .before .before .before .before .args .bytes .now in
-    sym (order-edition bs (omega arith) (λ e. c .if2 .taken (omega arith))))
-    (λ c.
-    let bs = c .before .before .before .before .before .args .bytes .now in
-    sym (order-spare bs (omega arith) (omega arith) (λ e. c .if3 .taken (omega (arith, mask-spare (c .before .before .number-of-four .result))))))
-    (λ c κs. tt)
+    (λ c κs. search needs)
+    returns
+    number-at-requires
+    read2-requires
     (λ c. search needs)
-    (λ c. search needs)
-    (λ c.
-    let bs = c .before .before .before .before .before .before .before .before .args .bytes .now in
-    let tested = sym (c .before .before .order-test .ensures) ∙ c .enum-told .given .1 in
-    answer bs _ Fine (c .before .before .before .before .before .number-of-four .ensures) (omega arith) (c .before .before .before .before .if2 .left) (c .before .before .before .if3 .left) tested)
-    (λ c.
-    let bs = c .before .before .before .before .before .before .before .before .before .args .bytes .now in
-    let tested = sym (c .before .before .before .order-test .ensures) ∙ c .before .tested .given .1 in
-    answer bs _ _ (c .before .before .before .before .before .before .number-of-four .ensures) (omega arith) (c .before .before .before .before .before .if2 .left) (c .before .before .before .before .if3 .left) tested))
+    (λ c κs. search needs)
+    returns-3
+    read1-requires
+    (λ c. search needs))

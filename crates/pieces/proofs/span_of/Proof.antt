@@ -1,57 +1,95 @@
-use mathlib.Core.Path.{sym}
+use mathlib.Core.Path.{sym, _∙_}
+use mathlib.Core.Bool.{false}
+use native.Mathlib.Omega.{arith}
 use borrow.Author.Needs.{needs}
-use lib.ListN.{replicate}
+use Rattle.code.specs.laws.Layout.{lengths-within}
+use Rattle.code.specs.Order.{Order, order}
+use Rattle.code.specs.laws.Order.{Ordered, order-fine}
 use Rattle.code.specs.Strands.{outcomes}
-use Rattle.reading.proofs.EqualLengths.{lent-symbols, lent-entries, outcomes-length}
+use Rattle.code.specs.laws.Strands.{length-reading}
+use Rattle.reading.proofs.Fronts.{lent-symbols, lent-entries}
 use Rattle.pieces.proofs.Spans.{first-span, later-span}
 use Rattle.pieces.proofs.span_of.Statement.{statement}
 use Rattle.pieces.proofs.span_of.Tie as tie
 
-read-equal-requires : tie.Need-read-equal-requires
-read-equal-requires c κs =
-    let a = c .before .before .before .before .args in
-    let h = c .before .before .before .before .pre in
-    let e = h .1 .0 in
-    let n = lent-entries (a .k) (a .l) e in
-    ((h .0, e), (lent-symbols (a .k) (a .l) e, n, n))
+-- the order, and what holds of it
+abbrev order-of : tie.Start → Order
+order-of b = order (b .args .lengths .now) (b .args .b)
+
+ordered : (b : tie.Start) → Ordered (order-of b) false
+ordered b = order-fine (order-of b) false (b .pre .1 .0)
+
+mul-n : tie.Need-mul-n
+mul-n c = search needs
+
+array-borrow-prefix-symbols : tie.Need-array-borrow-prefix-symbols
+array-borrow-prefix-symbols c = omega (arith, ordered (c .before .before) .most-bytes)
+
+slice-aggregate-read-layout : tie.Need-slice-aggregate-read-layout
+slice-aggregate-read-layout c = sym (lent-symbols (order-of (c .before .before .before)) (c .before .before .before .pre .1 .0))
+
+array-borrow-prefix-verdicts : tie.Need-array-borrow-prefix-verdicts
+array-borrow-prefix-verdicts c = omega (arith, ordered (c .before .before .before) .most-segments)
+
+slice-aggregate-read-layout-2 : tie.Need-slice-aggregate-read-layout-2
+slice-aggregate-read-layout-2 c = sym (lent-entries (order-of (c .before .before .before .before)) (c .before .before .before .before .pre .1 .0))
+
+array-borrow-prefix-ends : tie.Need-array-borrow-prefix-ends
+array-borrow-prefix-ends c = omega (arith, ordered (c .before .before .before .before) .most-segments)
+
+slice-aggregate-read-layout-3 : tie.Need-slice-aggregate-read-layout-3
+slice-aggregate-read-layout-3 c = sym (lent-entries (order-of (c .before .before .before .before .before)) (c .before .before .before .before .before .pre .1 .0))
+
+read-layout-requires : tie.Need-read-layout-requires
+read-layout-requires c κs =
+    let b = c .before .before .before .before .before in
+    let o = ordered b in
+    let n = lent-entries (order-of b) (b .pre .1 .0) in
+    ((b .pre .0, lengths-within (o .lengths) (omega arith)), (lent-symbols (order-of b) (b .pre .1 .0) ∙ sym (o .whole), n, n))
+
+mul-end : tie.Need-mul-end
+mul-end c = let o = ordered (c .before .before .before .before .before .before .before .before .before) in search needs
+
+array-read-end : tie.Need-array-read-end
+array-read-end c = let o = ordered (c .before .before .before .before .before .before .before .before .before) in search needs
 
 returns : tie.Need-returns
 returns c =
-    let a = c .before .before .before .before .before .before .before .before .before .args in
-    let os = outcomes (replicate (a .l) (a .k)) (a .s .now) in
-    first-span _ _ os (c .before .before .before .before .read-equal .ensures .1 .1) (a .i) (c .if1 .taken) (rw (outcomes-length (a .k) (a .l) (a .s .now)) (c .before .before .before .before .before .before .before .before .before .pre .1 .1))
+    let b = c .before .before .before .before .before .before .before .before .before .before in
+    let a = b .args in
+    first-span _ _ (outcomes (a .lengths .now) (a .s .now)) (c .before .before .before .before .read-layout .ensures .1 .1) (a .i) (c .if1 .taken) (rw (length-reading false 0 (a .lengths .now) (a .s .now) (a .s .now)) (b .pre .1 .1))
+
+sub-t11 : tie.Need-sub-t11
+sub-t11 c = search needs
+
+mul-t21 : tie.Need-mul-t21
+mul-t21 c = let o = ordered (c .before .before .before .before .before .before .before .before .before .before) in search needs
+
+array-read-t25 : tie.Need-array-read-t25
+array-read-t25 c = let o = ordered (c .before .before .before .before .before .before .before .before .before .before) in search needs
 
 returns-2 : tie.Need-returns-2
 returns-2 c =
-    let a = c .before .before .before .before .before .before .before .before .before .args in
-    let os = outcomes (replicate (a .l) (a .k)) (a .s .now) in
-    later-span _ _ os (c .before .before .before .before .read-equal .ensures .1 .1) (a .i) (c .if1 .left) (rw (outcomes-length (a .k) (a .l) (a .s .now)) (c .before .before .before .before .before .before .before .before .before .pre .1 .1))
-
-slice-aggregate-read-equal : tie.Need-slice-aggregate-read-equal
-slice-aggregate-read-equal c = sym (lent-symbols _ _ (c .before .before .pre .1 .0))
-
-slice-aggregate-read-equal-2 : tie.Need-slice-aggregate-read-equal-2
-slice-aggregate-read-equal-2 c = sym (lent-entries _ _ (c .before .before .before .pre .1 .0))
-
-slice-aggregate-read-equal-3 : tie.Need-slice-aggregate-read-equal-3
-slice-aggregate-read-equal-3 c = sym (lent-entries _ _ (c .before .before .before .before .pre .1 .0))
+    let b = c .before .before .before .before .before .before .before .before .before .before in
+    let a = b .args in
+    later-span _ _ (outcomes (a .lengths .now) (a .s .now)) (c .before .before .before .before .read-layout .ensures .1 .1) (a .i) (c .if1 .left) (rw (length-reading false 0 (a .lengths .now) (a .s .now) (a .s .now)) (b .pre .1 .1))
 
 pub span-of-spec : {M : Type 1} → statement M
 span-of-spec =
     tie.close
     (tie.spec
-    (λ c. search needs)
-    (λ c. search needs)
-    slice-aggregate-read-equal
-    (λ c. search needs)
-    slice-aggregate-read-equal-2
-    (λ c. search needs)
-    slice-aggregate-read-equal-3
-    read-equal-requires
-    (λ c. search needs)
-    (λ c. search needs)
+    mul-n
+    array-borrow-prefix-symbols
+    slice-aggregate-read-layout
+    array-borrow-prefix-verdicts
+    slice-aggregate-read-layout-2
+    array-borrow-prefix-ends
+    slice-aggregate-read-layout-3
+    read-layout-requires
+    mul-end
+    array-read-end
     returns
-    (λ c. search needs)
-    (λ c. search needs)
-    (λ c. search needs)
+    sub-t11
+    mul-t21
+    array-read-t25
     returns-2)

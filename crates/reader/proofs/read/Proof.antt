@@ -1,38 +1,37 @@
 use mathlib.Core.Path.{_≡_, sym, _∙_}
 use mathlib.Core.Bool.{false}
-use native.Mathlib.Omega.{arith}
 use lib.ListN.{length, take}
 use lib.Seq.{length-take-le}
 use Rattle.code.specs.declared.Checked.the-variants.{Fine}
 use Rattle.code.specs.declared.Decoded.the-variants as D
 use Rattle.code.specs.Symbols.{legible, decoded}
-use Rattle.code.specs.laws.Refusals.{Ordered, order-fine}
-use Rattle.code.specs.laws.WithinLimits.{equal-order}
+use Rattle.code.specs.Order.{Order, order}
+use Rattle.code.specs.laws.Order.{order-fine}
 use Rattle.code.specs.ReadCall.{receivedTest, shortBuffers}
 use Rattle.code.specs.laws.ReadCall.{received-fine, received-refused, read-short, read-foreign, read-fine}
 use Rattle.symbols.proofs.Decoded.{decoded-inside, decoded-front, decoded-received}
-use Rattle.reader.proofs.Calls.{short-is, room, read-is, promised}
+use Rattle.reader.proofs.Calls.{read-is, promised}
 use borrow.Author.Needs.{needs}
 use Rattle.reader.proofs.read.Statement.{statement}
 use Rattle.reader.proofs.read.Tie as tie
 
+abbrev order-of : tie.Start → Order
+order-of b = order (b .args .lengths .now) (b .args .b)
+
 -- tests 1 to 4 are not met
-taken : (c : tie.After-enum-told) → receivedTest (c .before .before .before .before .before .before .args .k) (c .before .before .before .before .before .before .args .b) (length (c .before .before .before .before .before .before .args .letters .now)) Fine ≡ Fine
+taken : (c : tie.After-enum-told) → receivedTest (order-of (c .before .before .before .before .before .before .before)) (length (c .before .before .before .before .before .before .before .args .letters .now)) Fine ≡ Fine
 taken c = sym (c .before .before .received-test .ensures) ∙ c .enum-told .given .1
 
-ordered : (c : tie.After-enum-told) → Ordered (c .before .before .before .before .before .before .args .k) (c .before .before .before .before .before .before .args .b) false
-ordered c = let a = c .before .before .before .before .before .before .args in order-fine (a .k) (a .b) false (received-fine (a .k) (a .b) (length (a .letters .now)) (taken c) .0)
-
 -- test 5 is not met
-not-short : (c : tie.Else1) → shortBuffers (c .before .before .before .before .before .before .before .before .args .k) (c .before .before .before .before .before .before .before .before .args .b) (length (c .before .before .before .before .before .before .before .before .args .message .now)) (length (c .before .before .before .before .before .before .before .before .args .sheet .now)) ≡ false
-not-short c = let a = c .before .before .before .before .before .before .before .before .args in short-is (a .k) (a .b) (length (a .message .now)) (length (a .sheet .now)) _ (c .before .short-buffers .ensures) ∙ c .if1 .left
+not-short : (c : tie.Else1) → shortBuffers (order-of (c .before .before .before .before .before .before .before .before .before)) (length (c .before .before .before .before .before .before .before .before .before .args .message .now)) (length (c .before .before .before .before .before .before .before .before .before .args .sheet .now)) ≡ false
+not-short c = sym (c .before .short-buffers .ensures) ∙ c .if1 .left
 
 -- test 6 is not met
-whole : (c : tie.After-enum-told2) → decoded (c .before .before .before .before .before .before .before .before .before .before .before .before .before .args .letters .now) ≡ D.Whole
+whole : (c : tie.After-enum-told2) → decoded (c .before .before .before .before .before .before .before .before .before .before .before .before .before .before .args .letters .now) ≡ D.Whole
 whole c = sym (c .before .before .before .decode .ensures .0) ∙ c .enum-told2 .given .1
 
 -- the symbols of the letters
-front : (c : tie.After-enum-told2) → take (length (c .before .before .before .before .before .before .before .before .before .before .before .before .before .args .letters .now)) (c .before .before .before .decode .last .1 .0) ≡ legible (c .before .before .before .before .before .before .before .before .before .before .before .before .before .args .letters .now)
+front : (c : tie.After-enum-told2) → take (length (c .before .before .before .before .before .before .before .before .before .before .before .before .before .before .args .letters .now)) (c .before .before .before .decode .last .1 .0) ≡ legible (c .before .before .before .before .before .before .before .before .before .before .before .before .before .before .args .letters .now)
 front c = decoded-front _ _ _ (c .before .before .before .decode .ensures .1) (whole c)
 
 received-test-requires : tie.Need-received-test-requires
@@ -43,47 +42,42 @@ enum-known-received c = search needs
 
 returns : tie.Need-returns
 returns c =
-    let a = c .before .before .before .before .before .before .before .args in
-    promised (a .k) (a .b) (a .letters .now) (a .message .now) (a .sheet .now) _
-    (rw (received-refused (a .k) (a .b) (length (a .letters .now)) _ _ (sym (c .before .before .before .received-test .ensures) ∙ c .before .received .given .1)))
+    let a = c .before .before .before .before .before .before .before .before .args in
+    promised (order-of (c .before .before .before .before .before .before .before .before)) (a .letters .now) (a .message .now) (a .sheet .now) _
+    (rw (received-refused (order-of (c .before .before .before .before .before .before .before .before)) (length (a .letters .now)) _ _ (sym (c .before .before .before .received-test .ensures) ∙ c .before .received .given .1)))
 
 enum-told : tie.Need-enum-told
 enum-told c = search needs
 
-mul-l : tie.Need-mul-l
-mul-l c = let o = ordered c in omega arith
-
-div-l : tie.Need-div-l
-div-l c = let o = ordered c in omega arith
-
-cast-l : tie.Need-cast-l
-cast-l c = let o = ordered c in omega arith
-
 short-buffers-requires : tie.Need-short-buffers-requires
-short-buffers-requires c κs = ordered c .most-segments
+short-buffers-requires c κs =
+    let b = c .before .before .before .before .before .before .before in
+    order-fine (order-of b) false (received-fine (order-of b) (length (b .args .letters .now)) (taken c) .0) .most-segments
 
 returns-2 : tie.Need-returns-2
 returns-2 c =
-    let a = c .before .before .before .before .before .before .before .before .args in
-    let short = short-is (a .k) (a .b) (length (a .message .now)) (length (a .sheet .now)) _ (c .before .short-buffers .ensures) ∙ c .if1 .taken in
-    promised (a .k) (a .b) (a .letters .now) (a .message .now) (a .sheet .now) _
-    (rw (read-short (a .k) (a .b) (a .letters .now) (taken (c .before .before)) (length (a .message .now)) (length (a .sheet .now)) short))
+    let a = c .before .before .before .before .before .before .before .before .before .args in
+    let short = sym (c .before .short-buffers .ensures) ∙ c .if1 .taken in
+    promised (order-of (c .before .before .before .before .before .before .before .before .before)) (a .letters .now) (a .message .now) (a .sheet .now) _
+    (rw (read-short (order-of (c .before .before .before .before .before .before .before .before .before)) (a .letters .now) (taken (c .before .before)) (length (a .message .now)) (length (a .sheet .now)) short))
 
 slice-aggregate-decode : tie.Need-slice-aggregate-decode
 slice-aggregate-decode c = search needs
 
 decode-requires : tie.Need-decode-requires
-decode-requires c κs = let a = c .before .before .before .before .before .before .before .before .before .args in received-fine (a .k) (a .b) (length (a .letters .now)) (taken (c .before .before .before)) .1
+decode-requires c κs =
+    let b = c .before .before .before .before .before .before .before .before .before .before in
+    received-fine (order-of b) (length (b .args .letters .now)) (taken (c .before .before .before)) .1
 
 enum-known-decoded : tie.Need-enum-known-decoded
 enum-known-decoded c = search needs
 
 returns-3 : tie.Need-returns-3
 returns-3 c =
-    let a = c .before .before .before .before .before .before .before .before .before .before .before .before .before .before .args in
+    let a = c .before .before .before .before .before .before .before .before .before .before .before .before .before .before .before .args in
     let foreign = sym (c .before .before .before .before .decode .ensures .0) ∙ c .before .decoded .given .1 in
-    promised (a .k) (a .b) (a .letters .now) (a .message .now) (a .sheet .now) _
-    (rw (read-foreign (a .k) (a .b) (a .letters .now) (taken (c .before .before .before .before .before .before .before .before)) (length (a .message .now)) (length (a .sheet .now)) _ (not-short (c .before .before .before .before .before .before)) foreign))
+    promised (order-of (c .before .before .before .before .before .before .before .before .before .before .before .before .before .before .before)) (a .letters .now) (a .message .now) (a .sheet .now) _
+    (rw (read-foreign (order-of (c .before .before .before .before .before .before .before .before .before .before .before .before .before .before .before)) (a .letters .now) (taken (c .before .before .before .before .before .before .before .before)) (length (a .message .now)) (length (a .sheet .now)) _ (not-short (c .before .before .before .before .before .before)) foreign))
 
 enum-told-2 : tie.Need-enum-told-2
 enum-told-2 c = search needs
@@ -96,12 +90,9 @@ slice-aggregate-read-symbols c = sym (length-take-le _ _ (decoded-inside _ _ _ (
 
 read-symbols-requires : tie.Need-read-symbols-requires
 read-symbols-requires c κs =
-    let a = c .before .before .before .before .before .before .before .before .before .before .before .before .before .before .before .before .args in
-    let t = taken (c .before .before .before .before .before .before .before .before .before .before) in
-    let o = ordered (c .before .before .before .before .before .before .before .before .before .before) in (
-      decoded-received _ (a .letters .now) _ (c .before .before .before .before .before .before .decode .ensures .1) (whole (c .before .before .before)) (received-fine (a .k) (a .b) (length (a .letters .now)) t .1),
-      (equal-order (a .k) (a .b) false o, room (a .k) (a .b) (length (a .message .now)) (length (a .sheet .now)) o (not-short (c .before .before .before .before .before .before .before .before))),
-    )
+    let a = c .before .before .before .before .before .before .before .before .before .before .before .before .before .before .before .before .before .args in
+    let r = received-fine (order-of (c .before .before .before .before .before .before .before .before .before .before .before .before .before .before .before .before .before)) (length (a .letters .now)) (taken (c .before .before .before .before .before .before .before .before .before .before)) in
+    (decoded-received _ (a .letters .now) _ (c .before .before .before .before .before .before .decode .ensures .1) (whole (c .before .before .before)) (r .1), (r .0, not-short (c .before .before .before .before .before .before .before .before)))
 
 same-length : tie.Need-same-length
 same-length c = search needs
@@ -111,10 +102,11 @@ same-length-2 c = search needs
 
 returns-4 : tie.Need-returns-4
 returns-4 c =
-    let a = c .before .before .before .before .before .before .before .before .before .before .before .before .before .before .before .before .before .before .before .before .before .args in
-    let t = read-fine (a .k) (a .b) (a .letters .now) (taken (c .before .before .before .before .before .before .before .before .before .before .before .before .before .before .before)) (length (a .message .now)) (length (a .sheet .now)) (not-short (c .before .before .before .before .before .before .before .before .before .before .before .before .before)) (whole (c .before .before .before .before .before .before .before .before)) in
-    promised (a .k) (a .b) (a .letters .now) (a .message .now) (a .sheet .now) _
-    (read-is (a .k) (a .b) (a .letters .now) (a .message .now) (a .sheet .now) _ _ (front (c .before .before .before .before .before .before .before .before)) t (c .before .before .before .before .read-symbols .ensures))
+    let a = c .before .before .before .before .before .before .before .before .before .before .before .before .before .before .before .before .before .before .before .before .before .before .args in
+    let o = order-of (c .before .before .before .before .before .before .before .before .before .before .before .before .before .before .before .before .before .before .before .before .before .before) in
+    let t = read-fine o (a .letters .now) (taken (c .before .before .before .before .before .before .before .before .before .before .before .before .before .before .before)) (length (a .message .now)) (length (a .sheet .now)) (not-short (c .before .before .before .before .before .before .before .before .before .before .before .before .before)) (whole (c .before .before .before .before .before .before .before .before)) in
+    promised o (a .letters .now) (a .message .now) (a .sheet .now) _
+    (read-is o (a .letters .now) (a .message .now) (a .sheet .now) _ _ (front (c .before .before .before .before .before .before .before .before)) t (c .before .before .before .before .read-symbols .ensures))
 
 pub read-spec : {M : Type 1} → statement M
 read-spec =
@@ -124,9 +116,6 @@ read-spec =
     enum-known-received
     returns
     enum-told
-    mul-l
-    div-l
-    cast-l
     short-buffers-requires
     returns-2
     slice-aggregate-decode

@@ -1,58 +1,82 @@
-use mathlib.Core.Path.{sym, ap, _∙_}
+use mathlib.Core.Path.{_≡_, sym, ap, _∙_}
 use mathlib.Core.Bool.{false}
 use mathlib.Core.List.{List, _++_, map}
 use Prim.Native.Nat.{ℕ, _*_, _/_}
 use native.Mathlib.Omega.{arith}
 use borrow.Author.Needs.{needs}
-use lib.ListN.{drop, replicate, length-take}
+use lib.ListN.{length, take, drop, replicate, length-take}
 use Rattle.code.specs.Symbols.{bytes}
 use Rattle.code.specs.laws.Symbols.{length-bytes}
+use Rattle.code.specs.laws.Layout.{lengths-within}
+use Rattle.code.specs.Order.{Order, order}
+use Rattle.code.specs.laws.Order.{Ordered, order-fine}
 use Rattle.code.specs.Sheet.{marksOf, sheetOf, countsOf, sheetBytes}
 use Rattle.code.specs.Strands.{outcomes, messagesOf, verdictsOf}
 use Rattle.code.specs.Verdicts.{verdictNumber, verdictOf}
 use Rattle.code.specs.laws.Verdicts.{marks-back}
 use Rattle.code.specs.laws.MessageBelow.{messages-below, marks-below}
 use Rattle.code.specs.laws.ReadCall.{length-sheet}
-use Rattle.reading.proofs.EqualLengths.{lent-symbols, lent-entries, Front, front-put, front-below, over-front, messages-length, numbers-length, marks-length}
+use Rattle.reading.proofs.Fronts.{lent-symbols, lent-entries, Front, front-put, front-below, over-front, messages-length, numbers-length, marks-length}
+use Rattle.reader.proofs.Calls.{room}
 use Rattle.reader.proofs.read_symbols.Statement.{statement}
 use Rattle.reader.proofs.read_symbols.Tie as tie
 
+-- the order, and what holds of it
+abbrev order-of : tie.Start → Order
+order-of b = order (b .args .lengths .now) (b .args .b)
+
+ordered : (b : tie.Start) → Ordered (order-of b) false
+ordered b = order-fine (order-of b) false (b .pre .1 .0)
+
+entries : (b : tie.Start) → length {A = ℕ} (take (length (b .args .lengths .now)) (replicate 64 0)) ≡ length (b .args .lengths .now)
+entries b = lent-entries (order-of b) (b .pre .1 .0)
+
 -- the messages in the array of symbols
-symbols-front : (c : tie.After-read-equal) → let a = c .before .before .before .before .before .before .before .args in Front (a .l * a .k) (messagesOf (outcomes (replicate (a .l) (a .k)) (a .s .now))) (c .read-equal .last .1 .1 .1 .0 ++ drop (a .l * a .k) (replicate 512 0))
+symbols-front : (c : tie.After-read-layout) → let a = c .before .before .before .before .before .before .before .before .args in Front (4 * a .b) (messagesOf (outcomes (a .lengths .now) (a .s .now))) (c .read-layout .last .1 .1 .0 ++ drop (4 * a .b) (replicate 512 0))
 symbols-front c =
-    let a = c .before .before .before .before .before .before .before .args in
-    front-put _ _ (drop (a .l * a .k) (replicate 512 0)) _ (c .read-equal .ensures .0) (messages-length (a .k) (a .l) (a .s .now) (c .before .before .before .before .before .before .before .pre .1 .0))
+    let b = c .before .before .before .before .before .before .before .before in
+    front-put _ _ (drop (4 * b .args .b) (replicate 512 0)) _ (c .read-layout .ensures .0) (messages-length (order-of b) (b .pre .1 .0) (b .args .s .now))
 
 -- the numbers of the verdicts in the array of verdicts
-verdicts-front : (c : tie.After-read-equal) (r : List ℕ) → let a = c .before .before .before .before .before .before .before .args in Front (a .l) (map verdictNumber (verdictsOf (outcomes (replicate (a .l) (a .k)) (a .s .now)))) (c .read-equal .last .1 .1 .1 .1 .0 ++ r)
+verdicts-front : (c : tie.After-read-layout) (r : List ℕ) → let a = c .before .before .before .before .before .before .before .before .args in Front (length (a .lengths .now)) (map verdictNumber (verdictsOf (outcomes (a .lengths .now) (a .s .now)))) (c .read-layout .last .1 .1 .1 .0 ++ r)
 verdicts-front c r =
-    let a = c .before .before .before .before .before .before .before .args in
-    front-put _ _ r _ (c .read-equal .ensures .1 .0) (numbers-length (a .k) (a .l) (a .s .now))
+    let b = c .before .before .before .before .before .before .before .before in
+    front-put _ _ r _ (c .read-layout .ensures .1 .0) (numbers-length (order-of b) (b .pre .1 .0) (b .args .s .now))
 
 -- the marks in the array of marks
-marks-front : (c : tie.After-marks-of) → let a = c .before .before .before .before .before .before .before .before .before .before .before .before .before .before .before .before .before .before .args in Front (a .l) (marksOf (verdictsOf (outcomes (replicate (a .l) (a .k)) (a .s .now)))) (c .marks-of .last .1 .0 ++ drop (a .l) (replicate 64 0))
+marks-front : (c : tie.After-marks-of) → let a = c .before .before .before .before .before .before .before .before .before .before .before .before .before .before .before .before .before .before .before .args in Front (length (a .lengths .now)) (marksOf (verdictsOf (outcomes (a .lengths .now) (a .s .now)))) (c .marks-of .last .1 .0 ++ drop (length (a .lengths .now)) (replicate 64 0))
 marks-front c =
-    let a = c .before .before .before .before .before .before .before .before .before .before .before .before .before .before .before .before .before .before .args in
-    let vs = verdictsOf (outcomes (replicate (a .l) (a .k)) (a .s .now)) in
+    let b = c .before .before .before .before .before .before .before .before .before .before .before .before .before .before .before .before .before .before .before in
+    let vs = verdictsOf (outcomes (b .args .lengths .now) (b .args .s .now)) in
     let numbers = verdicts-front (c .before .before .before .before .before .before .before .before .before .before .before) _ .entries in
-    front-put _ _ (drop (a .l) (replicate 64 0)) _ (c .marks-of .ensures ∙ ap (λ (ns : List ℕ). marksOf (map verdictOf ns)) numbers ∙ marks-back vs) (marks-length (a .k) (a .l) (a .s .now))
+    front-put _ _ (drop (length (b .args .lengths .now)) (replicate 64 0)) _ (c .marks-of .ensures ∙ ap (λ (ns : List ℕ). marksOf (map verdictOf ns)) numbers ∙ marks-back vs) (marks-length (order-of b) (b .pre .1 .0) (b .args .s .now))
 
-slice-aggregate-read-equal : tie.Need-slice-aggregate-read-equal
-slice-aggregate-read-equal c = sym (lent-symbols _ _ (c .before .before .before .before .pre .1 .0))
+mul-n : tie.Need-mul-n
+mul-n c = search needs
 
-slice-aggregate-read-equal-2 : tie.Need-slice-aggregate-read-equal-2
-slice-aggregate-read-equal-2 c = sym (lent-entries _ _ (c .before .before .before .before .before .pre .1 .0))
+array-borrow-prefix-symbols : tie.Need-array-borrow-prefix-symbols
+array-borrow-prefix-symbols c = omega (arith, ordered (c .before .before .before .before) .most-bytes)
 
-slice-aggregate-read-equal-3 : tie.Need-slice-aggregate-read-equal-3
-slice-aggregate-read-equal-3 c = sym (lent-entries _ _ (c .before .before .before .before .before .before .pre .1 .0))
+slice-aggregate-read-layout : tie.Need-slice-aggregate-read-layout
+slice-aggregate-read-layout c = sym (lent-symbols _ (c .before .before .before .before .before .pre .1 .0))
 
-read-equal-requires : tie.Need-read-equal-requires
-read-equal-requires c κs =
-    let a = c .before .before .before .before .before .before .args in
-    let h = c .before .before .before .before .before .before .pre in
-    let e = h .1 .0 in
-    let n = lent-entries (a .k) (a .l) e in
-    ((h .0, e), (lent-symbols (a .k) (a .l) e, n, n))
+array-borrow-prefix-verdicts : tie.Need-array-borrow-prefix-verdicts
+array-borrow-prefix-verdicts c = omega (arith, ordered (c .before .before .before .before .before) .most-segments)
+
+slice-aggregate-read-layout-2 : tie.Need-slice-aggregate-read-layout-2
+slice-aggregate-read-layout-2 c = sym (entries (c .before .before .before .before .before .before))
+
+array-borrow-prefix-ends : tie.Need-array-borrow-prefix-ends
+array-borrow-prefix-ends c = omega (arith, ordered (c .before .before .before .before .before .before) .most-segments)
+
+slice-aggregate-read-layout-3 : tie.Need-slice-aggregate-read-layout-3
+slice-aggregate-read-layout-3 c = sym (entries (c .before .before .before .before .before .before .before))
+
+read-layout-requires : tie.Need-read-layout-requires
+read-layout-requires c κs =
+    let b = c .before .before .before .before .before .before .before in
+    let o = ordered b in
+    ((b .pre .0, lengths-within (o .lengths) (omega arith)), (lent-symbols (order-of b) (b .pre .1 .0) ∙ sym (o .whole), entries b, entries b))
 
 array-share-prefix-symbols : tie.Need-array-share-prefix-symbols
 array-share-prefix-symbols c = omega (arith, symbols-front (c .before .before .before) .inside)
@@ -62,11 +86,11 @@ slice-aggregate-pack c = omega (arith, symbols-front (c .before .before .before 
 
 pack-requires : tie.Need-pack-requires
 pack-requires c κs =
-    let a = c .before .before .before .before .before .before .before .before .before .before .before .before .args in
-    let h = c .before .before .before .before .before .before .before .before .before .before .before .before .pre in
+    let b = c .before .before .before .before .before .before .before .before .before .before .before .before .before in
+    let a = b .args in
     let f = symbols-front (c .before .before .before .before .before) in
-    let small = front-below _ _ _ f (messages-below false 0 (replicate (a .l) (a .k)) (a .s .now) (a .s .now) (h .0 .symbols)) in
-    (λ i. omega (arith, small i), omega (arith, f .count, h .1 .1 .0))
+    let small = front-below _ _ _ f (messages-below false 0 (a .lengths .now) (a .s .now) (a .s .now) (b .pre .0 .symbols)) in
+    (λ i. omega (arith, small i), omega (arith, f .count, room (order-of b) _ _ (b .pre .1 .1) .0))
 
 array-share-prefix-verdicts : tie.Need-array-share-prefix-verdicts
 array-share-prefix-verdicts c = verdicts-front (c .before .before .before .before .before .before .before .before) _ .inside
@@ -74,11 +98,14 @@ array-share-prefix-verdicts c = verdicts-front (c .before .before .before .befor
 slice-aggregate-marks-of : tie.Need-slice-aggregate-marks-of
 slice-aggregate-marks-of c = sym (verdicts-front (c .before .before .before .before .before .before .before .before .before) _ .count)
 
+array-borrow-prefix-marks : tie.Need-array-borrow-prefix-marks
+array-borrow-prefix-marks c = omega (arith, ordered (c .before .before .before .before .before .before .before .before .before .before .before .before .before .before .before .before .before) .most-segments)
+
 slice-aggregate-marks-of-2 : tie.Need-slice-aggregate-marks-of-2
-slice-aggregate-marks-of-2 c = sym (lent-entries _ _ (c .before .before .before .before .before .before .before .before .before .before .before .before .before .before .before .before .before .pre .1 .0))
+slice-aggregate-marks-of-2 c = sym (entries (c .before .before .before .before .before .before .before .before .before .before .before .before .before .before .before .before .before .before))
 
 marks-of-requires : tie.Need-marks-of-requires
-marks-of-requires c κs = lent-entries _ _ (c .before .before .before .before .before .before .before .before .before .before .before .before .before .before .before .before .before .pre .1 .0) ∙ sym (verdicts-front (c .before .before .before .before .before .before .before .before .before .before) _ .count)
+marks-of-requires c κs = entries (c .before .before .before .before .before .before .before .before .before .before .before .before .before .before .before .before .before .before) ∙ sym (verdicts-front (c .before .before .before .before .before .before .before .before .before .before) _ .count)
 
 array-share-prefix-marks : tie.Need-array-share-prefix-marks
 array-share-prefix-marks c = omega (arith, marks-front (c .before) .inside)
@@ -88,24 +115,30 @@ slice-aggregate-pack-sheet c = omega (arith, marks-front (c .before .before) .co
 
 pack-sheet-requires : tie.Need-pack-sheet-requires
 pack-sheet-requires c κs =
-    let a = c .before .before .before .before .before .before .before .before .before .before .before .before .before .before .before .before .before .before .before .before .before .args in
-    let h = c .before .before .before .before .before .before .before .before .before .before .before .before .before .before .before .before .before .before .before .before .before .pre .1 in
+    let b = c .before .before .before .before .before .before .before .before .before .before .before .before .before .before .before .before .before .before .before .before .before .before in
+    let a = b .args in
     let f = marks-front (c .before .before .before) in
-    let small = front-below _ _ _ f (marks-below (outcomes (replicate (a .l) (a .k)) (a .s .now))) in
-    (λ i. omega (arith, small i), (omega (arith, f .count, h .0 .most-segments), omega (arith, f .count, h .1 .1)))
+    let small = front-below _ _ _ f (marks-below (outcomes (a .lengths .now) (a .s .now))) in
+    (λ i. omega (arith, small i), (omega (arith, f .count, ordered b .most-segments), omega (arith, f .count, room (order-of b) _ _ (b .pre .1 .1) .1)))
 
 array-share-prefix-marks-2 : tie.Need-array-share-prefix-marks-2
-array-share-prefix-marks-2 c = omega (arith, marks-front (c .before .before .before .before .before .before) .inside, c .before .before .before .before .before .before .before .before .before .before .before .before .before .before .before .before .before .before .before .before .before .before .before .before .pre .1 .0 .some-segments)
+array-share-prefix-marks-2 c = omega (arith, marks-front (c .before .before .before .before .before .before) .inside)
 
 slice-aggregate-counts-of : tie.Need-slice-aggregate-counts-of
-slice-aggregate-counts-of c = simp length-take (omega (arith, marks-front (c .before .before .before .before .before .before .before) .inside, c .before .before .before .before .before .before .before .before .before .before .before .before .before .before .before .before .before .before .before .before .before .before .before .before .before .pre .1 .0 .some-segments))
+slice-aggregate-counts-of c = simp length-take (omega (arith, marks-front (c .before .before .before .before .before .before .before) .inside))
 
 counts-of-requires : tie.Need-counts-of-requires
-counts-of-requires c κs = simp length-take (omega (arith, c .before .before .before .before .before .before .before .before .before .before .before .before .before .before .before .before .before .before .before .before .before .before .before .before .before .pre .1 .0 .most-segments))
+counts-of-requires c κs = simp length-take (omega (arith, ordered (c .before .before .before .before .before .before .before .before .before .before .before .before .before .before .before .before .before .before .before .before .before .before .before .before .before .before) .most-segments))
+
+same-length : tie.Need-same-length
+same-length c = search needs
+
+same-length-2 : tie.Need-same-length-2
+same-length-2 c = search needs
 
 returns : tie.Need-returns
 returns c =
-    let a = c .before .before .before .before .before .before .before .before .before .before .before .before .before .before .before .before .before .before .before .before .before .before .before .before .before .before .args in
+    let a = c .before .before .before .before .before .before .before .before .before .before .before .before .before .before .before .before .before .before .before .before .before .before .before .before .before .before .before .args in
     let symbols = symbols-front (c .before .before .before .before .before .before .before .before .before .before .before .before .before .before .before .before .before .before .before) .entries in
     let marks = marks-front (c .before .before .before .before .before .before .before .before) .entries in
     let counts = c .counts-of .ensures ∙ ap countsOf marks in
@@ -117,20 +150,20 @@ pub read-symbols-spec : {M : Type 1} → statement M
 read-symbols-spec =
     tie.close
     (tie.spec
-    (λ c. search needs)
-    (λ c. search needs)
-    slice-aggregate-read-equal
-    (λ c. search needs)
-    slice-aggregate-read-equal-2
-    (λ c. search needs)
-    slice-aggregate-read-equal-3
-    read-equal-requires
+    mul-n
+    array-borrow-prefix-symbols
+    slice-aggregate-read-layout
+    array-borrow-prefix-verdicts
+    slice-aggregate-read-layout-2
+    array-borrow-prefix-ends
+    slice-aggregate-read-layout-3
+    read-layout-requires
     array-share-prefix-symbols
     slice-aggregate-pack
     pack-requires
     array-share-prefix-verdicts
     slice-aggregate-marks-of
-    (λ c. search needs)
+    array-borrow-prefix-marks
     slice-aggregate-marks-of-2
     marks-of-requires
     array-share-prefix-marks
@@ -139,6 +172,6 @@ read-symbols-spec =
     array-share-prefix-marks-2
     slice-aggregate-counts-of
     counts-of-requires
-    (λ c. search needs)
-    (λ c. search needs)
+    same-length
+    same-length-2
     returns)

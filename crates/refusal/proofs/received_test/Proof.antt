@@ -3,7 +3,8 @@ use mathlib.Core.Bool.{false}
 use Rattle.code.specs.declared.Refusal.the-variants.{Overlong}
 use Rattle.code.specs.declared.Checked.the-variants.{Fine}
 use Rattle.code.specs.Refusals.{refuse}
-use Rattle.code.specs.laws.Refusals.{order-then, order-refused}
+use Rattle.code.specs.Order.{order}
+use Rattle.code.specs.laws.Order.{order-then, order-refused}
 use Rattle.code.specs.ReadCall.{overlong}
 use Rattle.code.specs.laws.ReadCall.{fine-received}
 use borrow.Author.Tests.{lt-ltb}
@@ -14,27 +15,27 @@ use Rattle.refusal.proofs.received_test.Tie as tie
 order-test-requires : tie.Need-order-test-requires
 order-test-requires c κs = search needs
 
-enum-known-order : tie.Need-enum-known-order
-enum-known-order c = search needs
+enum-known-tested : tie.Need-enum-known-tested
+enum-known-tested c = search needs
 
 returns : tie.Need-returns
 returns c =
-    let a = c .before .before .before .before .args in
-    sym (order-refused (a .k) (a .b) false _ (refuse (overlong (a .n)) Overlong Fine) (sym (c .before .before .before .order-test .ensures) ∙ c .before .order .given .1))
+    let a = c .before .before .before .before .before .args in
+    sym (order-refused (order (a .lengths .now) (a .b)) false _ (refuse (overlong (a .n)) Overlong Fine) (sym (c .before .before .before .order-test .ensures) ∙ c .before .tested .given .1))
 
 enum-told : tie.Need-enum-told
 enum-told c = search needs
 
 returns-2 : tie.Need-returns-2
 returns-2 c =
-    let a = c .before .before .before .before .args in
-    sym (order-then (a .k) (a .b) false (refuse (overlong (a .n)) Overlong Fine) (sym (c .before .before .before .order-test .ensures) ∙ c .before .enum-told .given .1) ∙ rw (lt-ltb _ _ (c .if1 .taken)))
+    let a = c .before .before .before .before .before .args in
+    sym (order-then (order (a .lengths .now) (a .b)) false (refuse (overlong (a .n)) Overlong Fine) (sym (c .before .before .before .order-test .ensures) ∙ c .before .enum-told .given .1) ∙ rw (lt-ltb _ _ (c .if1 .taken)))
 
 returns-3 : tie.Need-returns-3
 returns-3 c =
-    let a = c .before .before .before .before .args in
-    sym (fine-received (a .k) (a .b) (a .n) (sym (c .before .before .before .order-test .ensures) ∙ c .before .enum-told .given .1) (c .if1 .left))
+    let a = c .before .before .before .before .before .args in
+    sym (fine-received (order (a .lengths .now) (a .b)) (a .n) (sym (c .before .before .before .order-test .ensures) ∙ c .before .enum-told .given .1) (c .if1 .left))
 
 pub received-test-spec : {M : Type 1} → statement M
 received-test-spec =
-    tie.close (tie.spec order-test-requires enum-known-order returns enum-told returns-2 returns-3)
+    tie.close (tie.spec order-test-requires enum-known-tested returns enum-told returns-2 returns-3)

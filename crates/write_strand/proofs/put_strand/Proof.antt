@@ -1,5 +1,6 @@
 use native.Mathlib.Omega.{arith}
 use borrow.Author.Needs.{needs}
+use Rattle.code.specs.Order.{order}
 use Rattle.text.specs.laws.Put.{appended-both}
 use Rattle.write_strand.proofs.Shown.{letters-shown, refused-shown, letters-most}
 use Rattle.write_strand.proofs.put_strand.Statement.{statement}
@@ -21,10 +22,10 @@ put-strand-spec =
     (λ c κs. search needs)
     (λ c. search needs)
     (λ c.
-    let a = c .before .before .before .before .before .before .before .before .before .before .before .before .before .before .before .before .before .before .before .args in
-    rw (← letters-shown (a .k) (a .b) (a .message .now) (c .before .before .before .before .before .before .before .before .before .before .before .before .before .before .before .write .last .1 .1 .1 .0) _ (c .before .before .before .before .before .before .before .before .before .before .before .before .before .before .before .write .ensures) _ (c .before .before .before .before .before .before .before .before .before .before .before .before .n .given .1), ← c .before .before .before .before .before .before .before .before .front .ensures)
+    let a = c .before .before .before .before .before .before .before .before .before .before .before .before .before .before .before .before .before .before .before .before .args in
+    rw (← letters-shown (order (a .lengths .now) (a .b)) (a .message .now) (c .before .before .before .before .before .before .before .before .before .before .before .before .before .before .before .write .last .1 .1 .1 .0) _ (c .before .before .before .before .before .before .before .before .before .before .before .before .before .before .before .write .ensures) _ (c .before .before .before .before .before .before .before .before .before .before .before .before .n .given .1), ← c .before .before .before .before .before .before .before .before .front .ensures)
     (appended-both (c .before .before .before .before .before .before .before .put .ensures) (c .before .before .put2 .ensures)))
     (λ c. search needs)
     (λ c.
-    let a = c .before .before .before .before .before .before .before .before .before .before .before .before .args in
-    rw (← refused-shown (a .k) (a .b) (a .message .now) (c .before .before .before .before .before .before .before .before .write .last .1 .1 .1 .0) _ (c .before .before .before .before .before .before .before .before .write .ensures) _ (c .before .before .before .before .before .r .given .1)) (c .before .before .put-refused .ensures)))
+    let a = c .before .before .before .before .before .before .before .before .before .before .before .before .before .args in
+    rw (← refused-shown (order (a .lengths .now) (a .b)) (a .message .now) (c .before .before .before .before .before .before .before .before .write .last .1 .1 .1 .0) _ (c .before .before .before .before .before .before .before .before .write .ensures) _ (c .before .before .before .before .before .r .given .1)) (c .before .before .put-refused .ensures)))

@@ -1,62 +1,82 @@
-use mathlib.Core.Path.{sym, _∙_}
-use mathlib.Core.Bool.{not}
+use mathlib.Core.Path.{_≡_, sym, _∙_}
+use mathlib.Core.Bool.{Bool, not}
 use native.Mathlib.Omega.{arith}
 use borrow.Author.Needs.{needs}
 use lib.Dec.{eqb}
 use lib.ListN.{length}
+use Rattle.code.specs.declared.Checked.the-variants.{Fine}
 use Rattle.code.specs.declared.Wrote.the-variants as W
-use Rattle.code.specs.laws.Refusals.{order-fine}
+use Rattle.code.specs.Order.{Order, order, orderTest}
+use Rattle.code.specs.laws.Order.{Ordered, order-fine}
+use Rattle.code.specs.laws.Layout.{lengths-within}
 use Rattle.code.specs.laws.Writing.{write-refused, write-short, write-fine, ordered-length}
-use Rattle.code.specs.laws.WithinLimits.{equal-order}
 use Rattle.writer.proofs.write.Statement.{statement}
 use Rattle.writer.proofs.write.Tie as tie
+
+abbrev order-of : tie.Start → Order
+order-of b = order (b .args .lengths .now) (b .args .b)
+
+abbrev other-size : tie.Start → Bool
+other-size b = not (eqb (length (b .args .message .now)) (b .args .b))
+
+-- tests 1 to 3 are not met
+taken : (c : tie.After-enum-told) → orderTest (order-of (c .before .before .before .before .before .before)) (other-size (c .before .before .before .before .before .before)) Fine ≡ Fine
+taken c = sym (c .before .before .order-test .ensures) ∙ c .enum-told .given .1
+
+ordered : (c : tie.After-enum-told) → Ordered (order-of (c .before .before .before .before .before .before)) (other-size (c .before .before .before .before .before .before))
+ordered c = order-fine (order-of (c .before .before .before .before .before .before)) (other-size (c .before .before .before .before .before .before)) (taken c)
+
+order-test-requires : tie.Need-order-test-requires
+order-test-requires c κs = search needs
+
+enum-known-tested : tie.Need-enum-known-tested
+enum-known-tested c = search needs
+
+returns : tie.Need-returns
+returns c =
+    let b = c .before .before .before .before .before .before .before in
+    let e = sym (c .before .before .before .order-test .ensures) ∙ c .before .tested .given .1 in
+    rw (write-refused (order-of b) (b .args .message .now) (length (b .args .out .now)) _ e)
+
+enum-told : tie.Need-enum-told
+enum-told c = search needs
+
+extent-of-requires : tie.Need-extent-of-requires
+extent-of-requires c κs = let o = ordered c in (o .lengths, o .some-segments, o .most-segments)
+
+returns-2 : tie.Need-returns-2
+returns-2 c =
+    let b = c .before .before .before .before .before .before .before .before in
+    rw (write-short (order-of b) (b .args .message .now) (length (b .args .out .now)) (taken (c .before .before)) (omega (arith, c .before .extent-of .ensures, c .if1 .taken)))
+
+write-letters-requires : tie.Need-write-letters-requires
+write-letters-requires c κs =
+    let b = c .before .before .before .before .before .before .before .before .before in
+    let o = ordered (c .before .before .before) in
+    let n = ordered-length (order-of b) (b .args .message .now) 0 (taken (c .before .before .before)) in
+    ((lengths-within (o .lengths) (omega arith), omega (arith, n, o .most-bytes)), (omega (arith, n, o .whole), omega (arith, c .before .before .extent-of .ensures, c .before .if1 .left)))
+
+same-length : tie.Need-same-length
+same-length c = search needs
+
+returns-3 : tie.Need-returns-3
+returns-3 c =
+    let b = c .before .before .before .before .before .before .before .before .before .before .before .before in
+    let x = c .before .before .before .before .before .extent-of .ensures in
+    let t = write-fine (order-of b) (b .args .message .now) (length (b .args .out .now)) (taken (c .before .before .before .before .before .before)) (omega (arith, x, c .before .before .before .before .if1 .left)) in
+    let w = c .before .before .write-letters .ensures in
+    rw t (λ i. (W.Bytes (x i), w i))
 
 pub write-spec : {M : Type 1} → statement M
 write-spec =
     tie.close
     (tie.spec
-    (λ c κs. search needs)
-    (λ c. search needs)
-    (λ c.
-    let a = c .before .before .before .before .before .before .args in
-    let e = sym (c .before .before .before .order-test .ensures) ∙ c .before .order .given .1 in
-    rw (write-refused (a .k) (a .b) (a .message .now) (length (a .out .now)) _ e))
-    (λ c. search needs)
-    (λ c.
-    let a = c .before .before .before .before .before .args in
-    let e = sym (c .before .before .order-test .ensures) ∙ c .enum-told .given .1 in
-    let o = order-fine (a .k) (a .b) (not (eqb (length (a .message .now)) (a .b))) e in
-    omega arith)
-    (λ c.
-    let a = c .before .before .before .before .before .args in
-    let e = sym (c .before .before .order-test .ensures) ∙ c .enum-told .given .1 in
-    let o = order-fine (a .k) (a .b) (not (eqb (length (a .message .now)) (a .b))) e in
-    omega arith)
-    (λ c.
-    let a = c .before .before .before .before .before .args in
-    let e = sym (c .before .before .order-test .ensures) ∙ c .enum-told .given .1 in
-    let o = order-fine (a .k) (a .b) (not (eqb (length (a .message .now)) (a .b))) e in
-    omega arith)
-    (λ c κs.
-    let a = c .before .before .before .before .before .args in
-    let e = sym (c .before .before .order-test .ensures) ∙ c .enum-told .given .1 in
-    let o = order-fine (a .k) (a .b) (not (eqb (length (a .message .now)) (a .b))) e in
-    ((o .least-length, omega arith), o .some-segments, o .most-segments))
-    (λ c.
-    let a = c .before .before .before .before .before .before .before .args in
-    let e = sym (c .before .before .before .before .order-test .ensures) ∙ c .before .before .enum-told .given .1 in
-    rw (write-short (a .k) (a .b) (a .message .now) (length (a .out .now)) e (omega (arith, c .before .extent-of .ensures))))
-    (λ c κs.
-    let a = c .before .before .before .before .before .before .before .before .args in
-    let e = sym (c .before .before .before .before .before .order-test .ensures) ∙ c .before .before .before .enum-told .given .1 in
-    let o = order-fine (a .k) (a .b) (not (eqb (length (a .message .now)) (a .b))) e in
-    let h = ordered-length (a .k) (a .b) (a .message .now) 0 e in
-    (equal-order (a .k) (a .b) _ o, (o .whole ∙ omega arith, omega (arith, c .before .before .extent-of .ensures))))
-    (λ c. search needs)
-    (λ c.
-    let a = c .before .before .before .before .before .before .before .before .before .before .before .args in
-    let x = c .before .before .before .before .before .extent-of .ensures in
-    let e = sym (c .before .before .before .before .before .before .before .before .order-test .ensures) ∙ c .before .before .before .before .before .before .enum-told .given .1 in
-    let t = write-fine (a .k) (a .b) (a .message .now) (length (a .out .now)) e (omega arith) in
-    let w = c .before .before .write-equal .ensures in
-    rw t (λ i. (W.Letters (x i), w i))))
+    order-test-requires
+    enum-known-tested
+    returns
+    enum-told
+    extent-of-requires
+    returns-2
+    write-letters-requires
+    same-length
+    returns-3)

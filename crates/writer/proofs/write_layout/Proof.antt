@@ -32,6 +32,9 @@ write-layout-spec =
     (λ c. let a = c .before .before .before .args in begin (a .lengths .now) (a .symbols .now) (a .out .now) (c .before .before .before .pre .1 .0))
     (λ c. omega arith)
     (λ c. omega arith)
+    (λ c.
+    let b = c .before .before .before .before .before .before in
+    record { fits = omega (arith, lengths-at (b .args .lengths .now) (c .before .before .loop .i) (b .pre .0) (c .before .loop-test .taken) .1) })
     (λ c. let g = next (c .before) in omega arith)
     (λ c. omega arith)
     (λ c. let g = next (c .before) in omega arith)

@@ -9,6 +9,12 @@ use Rattle.steps.proofs.step_10.scan_behind.Tie as tie
 returns : tie.Need-returns
 returns c = let a = c .before .before .before .args in none-behind (a .marked) (a .k) (a .p) (a .s .now) (a .rest .now) (c .if1 .taken)
 
+-- the next segment's length is small
+cast-find-clean : tie.Need-cast-find-clean
+cast-find-clean c =
+    let b = c .before .before .before .before .before in
+    record { fits = omega (arith, first-length (b .args .rest .now) (b .pre .1 .1) (omega (arith, c .before .before .if1 .left)) .1) }
+
 find-clean-requires : tie.Need-find-clean-requires
 find-clean-requires c κs =
     let b = c .before .before .before .before .before in
@@ -25,4 +31,4 @@ returns-2 c =
     scan-is (a .marked) (a .k) (a .p) (a .s .now) (a .rest .now) (omega (arith, c .before .before .before .if1 .left)) (b .pre .0) (b .pre .1 .0 .0) (n .result) (n .ensures) (c .find-clean .result) (c .find-clean .ensures)
 
 pub scan-behind-spec : {M : Type 1} → statement M
-scan-behind-spec = tie.close (tie.spec returns (λ c κs. search needs) (λ c. search needs) find-clean-requires returns-2)
+scan-behind-spec = tie.close (tie.spec returns (λ c κs. search needs) (λ c. search needs) cast-find-clean find-clean-requires returns-2)

@@ -1,0 +1,66 @@
+-- What a reading is lent, and what it leaves at the fronts of arrays and buffers.
+--   lent-symbols, lent-entries                     how much the parts of arrays hold that a reading is lent
+--   Front                                          what stands at the front of an array
+--   front-put                                      the front of an array that a call was lent
+--   front-below                                    symbols at the front of an array
+--   over-front                                     what a call leaves at the front of a buffer
+--   messages-length, numbers-length, marks-length  how much a reading gives
+use mathlib.Core.Path.{_≡_, sym, ap, subst, _∙_}
+use mathlib.Core.Bool.{false}
+use mathlib.Core.List.{List, _++_, map}
+use Prim.Native.Nat.{ℕ, _*_, _≤_}
+use native.Mathlib.Omega.{arith}
+use lib.ListN.{length, take, drop, replicate, length-append, length-map}
+use lib.Seq.{take-at, length-take-le}
+use Rattle.code.specs.Symbols.{Below}
+use Rattle.code.specs.Order.{Order, Taken}
+use Rattle.code.specs.laws.Order.{order-fine}
+use Rattle.code.specs.Sheet.{marksOf}
+use Rattle.code.specs.Strands.{Outcome, outcomes, messagesOf, verdictsOf}
+use Rattle.code.specs.Verdicts.{verdictNumber}
+use Rattle.code.specs.Buffers.{overFront}
+use Rattle.code.specs.laws.Strands.{length-reading}
+use Rattle.code.specs.laws.MessageLengths.{length-messages}
+
+-- the first n entries of the array a are y
+pub record Front (n : ℕ) (y a : List ℕ) : Type 0 where
+  pub inside : n ≤ length a
+  pub entries : take n a ≡ y
+  pub count : length (take n a) ≡ n
+
+-- x was put at the front of an array
+pub front-put : (x y r : List ℕ) (n : ℕ) → x ≡ y → length y ≡ n → Front n y (x ++ r)
+front-put x y r n e h =
+    let t : take n (x ++ r) ≡ y = take-at x r n (ap length e ∙ h) ∙ e in
+    record { inside = simp length-append (omega (arith, ap length e)); entries = t; count = ap length t ∙ h }
+
+pub front-below : (n : ℕ) (y a : List ℕ) → Front n y a → Below 4 y → Below 4 (take n a)
+front-below n y a f small = subst (Below 4) (sym (f .entries)) small
+
+-- what a function of t, which is y, left at the front of a buffer that was d
+pub over-front : (g : List ℕ → List ℕ) (size : ℕ → ℕ) → ((m : List ℕ) → length (g m) ≡ size (length m)) → (t y d out : List ℕ) → t ≡ y → out ≡ g t ++ drop (size (length t)) d → out ≡ overFront (g y) d
+over-front g size law t y d out q e = e ∙ ap (λ (m : List ℕ). g m ++ drop (size (length m)) d) q ∙ ap (λ (n : ℕ). g y ++ drop n d) (sym (law y))
+
+-- The reading of an order that is taken
+module _ (o : Order) (t : Taken o) where
+  pub lent-symbols : length {A = ℕ} (take (4 * o .b) (replicate 512 0)) ≡ 4 * o .b
+  lent-symbols = length-take-le (4 * o .b) (replicate 512 0) (omega (arith, order-fine o false t .most-bytes))
+
+  pub lent-entries : length {A = ℕ} (take (length (o .lengths)) (replicate 64 0)) ≡ length (o .lengths)
+  lent-entries = length-take-le (length (o .lengths)) (replicate 64 0) (order-fine o false t .most-segments)
+
+  module _ (s : List ℕ) where
+    abbrev os : List Outcome
+    os = outcomes (o .lengths) s
+
+    pub messages-length : length (messagesOf os) ≡ 4 * o .b
+    messages-length = length-messages false 0 (o .lengths) s s (order-fine o false t .lengths) ∙ order-fine o false t .whole
+
+    outcomes-length : length os ≡ length (o .lengths)
+    outcomes-length = length-reading false 0 (o .lengths) s s
+
+    pub numbers-length : length (map verdictNumber (verdictsOf os)) ≡ length (o .lengths)
+    numbers-length = simp length-map outcomes-length
+
+    pub marks-length : length (marksOf (verdictsOf os)) ≡ length (o .lengths)
+    marks-length = simp length-map outcomes-length

@@ -1,0 +1,65 @@
+//! What the programs print, by the oracle.
+
+use crate::oracle::{self, Refused};
+
+/// The first two lines of an input; a missing one is empty.
+pub fn two_lines(input: &[u8]) -> (&[u8], &[u8]) {
+    let mut lines = input.split(|&byte| byte == b'\n');
+    let first = lines.next().unwrap_or_default();
+    (first, lines.next().unwrap_or_default())
+}
+
+/// The bytes of hexadecimal digits of either case, two for each byte.
+pub fn bytes_of(digits: &[u8]) -> Option<Vec<u8>> {
+    if !digits.len().is_multiple_of(2) {
+        return None;
+    }
+    let digit = |x: u8| (x as char).to_digit(16);
+    let byte = |two: &[u8]| Some((digit(two[0])? * 16 + digit(two[1])?) as u8);
+    digits.chunks(2).map(byte).collect()
+}
+
+pub fn hex(bytes: &[u8]) -> String {
+    bytes.iter().map(|byte| format!("{byte:02X}")).collect()
+}
+
+fn refuse<T>(number: u32) -> Result<T, Refused> {
+    Err(Refused { number, place: 0 })
+}
+
+/// Layout and B of a line that holds exactly the bytes its label needs; all else is refused by 8.
+pub fn label_of(line: &[u8]) -> Result<(Vec<u16>, u32), Refused> {
+    match bytes_of(line) {
+        Some(label) if oracle::label_needs(&label) == Some(label.len()) => {
+            oracle::read_label(&label)
+        }
+        _ => refuse(8),
+    }
+}
+
+/// The two lines of the reading program.
+pub fn reading(label: &[u8], strand: &[u8]) -> Result<String, Refused> {
+    let (lengths, b) = label_of(label)?;
+    let (mut message, mut sheet) = (vec![0; b as usize], vec![0; lengths.len().div_ceil(4)]);
+    let [clean, corrected, lost] = oracle::read(&lengths, b, strand, &mut message, &mut sheet)?;
+    let message = hex(&message);
+    Ok(format!(
+        "{message}\nclean {clean} corrected {corrected} lost {lost}\n"
+    ))
+}
+
+/// The line of the writing program; a message that is no hexadecimal has not B bytes.
+pub fn writing(label: &[u8], message: &[u8]) -> Result<String, Refused> {
+    let (lengths, b) = label_of(label)?;
+    let Some(message) = bytes_of(message) else {
+        return refuse(2);
+    };
+    let mut strand = [0; 2048];
+    let letters = oracle::write(&lengths, b, &message, &mut strand)?;
+    Ok(format!("{}\n", strand[..letters].escape_ascii()))
+}
+
+/// What a program prints for its answer.
+pub fn printed(answer: Result<String, Refused>) -> String {
+    answer.unwrap_or_else(|refused| format!("refused {}\n", refused.number))
+}

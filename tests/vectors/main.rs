@@ -1,0 +1,395 @@
+//! Answers each line of the vector files by the oracle, and by the library or the reading program, and compares.
+
+#[allow(dead_code)]
+#[path = "../outside/ffi.rs"]
+mod ffi;
+#[allow(dead_code)]
+#[path = "../outside/oracle.rs"]
+mod oracle;
+#[allow(dead_code)]
+#[path = "../outside/program.rs"]
+mod program;
+
+use oracle::{Edit, Refused, Verdict};
+use program::hex;
+use std::io::Write;
+use std::process::{exit, Command, Stdio};
+
+const READER: &str = "target/bin/read_strand";
+/// Stands in lent buffers before a call.
+const BEFORE: u8 = 0xA5;
+
+/// The fields of a question behind its kind.
+struct Fields<'a> {
+    words: std::str::Split<'a, char>,
+}
+
+impl<'a> Fields<'a> {
+    fn word(&mut self) -> Option<&'a str> {
+        self.words.next()
+    }
+
+    fn number<T: std::str::FromStr>(&mut self) -> Option<T> {
+        self.word()?.parse().ok()
+    }
+
+    /// Lengths with commas.
+    fn lengths(&mut self) -> Option<Vec<u16>> {
+        match self.word()? {
+            "." => Some(Vec::new()),
+            word => word.split(',').map(|length| length.parse().ok()).collect(),
+        }
+    }
+
+    fn bytes(&mut self) -> Option<Vec<u8>> {
+        match self.word()? {
+            "." => Some(Vec::new()),
+            word => program::bytes_of(word.as_bytes()),
+        }
+    }
+
+    /// Letters as they stand, or any bytes in hexadecimal.
+    fn letters(&mut self) -> Option<Vec<u8>> {
+        let word = self.word()?;
+        match word.strip_prefix("0x") {
+            Some(digits) => program::bytes_of(digits.as_bytes()),
+            None if word == "." => Some(Vec::new()),
+            None => Some(word.as_bytes().to_vec()),
+        }
+    }
+}
+
+enum Question {
+    Label {
+        label: Vec<u8>,
+    },
+    WriteLabel {
+        b: u32,
+        lengths: Vec<u16>,
+        room: usize,
+    },
+    Write {
+        b: u32,
+        lengths: Vec<u16>,
+        message: Vec<u8>,
+        room: usize,
+    },
+    Read {
+        b: u32,
+        lengths: Vec<u16>,
+        letters: Vec<u8>,
+        rooms: (usize, usize),
+    },
+    Piece {
+        b: u32,
+        lengths: Vec<u16>,
+        letters: Vec<u8>,
+        segment: u32,
+    },
+    Program {
+        input: Vec<u8>,
+    },
+}
+
+/// None where the kind is not known or a field does not fit it.
+fn question_of(text: &str) -> Option<Question> {
+    let mut fields = Fields {
+        words: text.split(' '),
+    };
+    let question = match fields.word()? {
+        "label" => Question::Label {
+            label: fields.bytes()?,
+        },
+        "wlabel" => Question::WriteLabel {
+            b: fields.number()?,
+            lengths: fields.lengths()?,
+            room: fields.number()?,
+        },
+        "write" => Question::Write {
+            b: fields.number()?,
+            lengths: fields.lengths()?,
+            message: fields.bytes()?,
+            room: fields.number()?,
+        },
+        "read" => Question::Read {
+            b: fields.number()?,
+            lengths: fields.lengths()?,
+            letters: fields.letters()?,
+            rooms: (fields.number()?, fields.number()?),
+        },
+        "piece" => Question::Piece {
+            b: fields.number()?,
+            lengths: fields.lengths()?,
+            letters: fields.letters()?,
+            segment: fields.number()?,
+        },
+        "prog" => Question::Program {
+            input: fields.letters()?,
+        },
+        _ => return None,
+    };
+    fields.word().is_none().then_some(question)
+}
+
+/// Bytes, lengths or letters as they stand in a line; none are a dot.
+fn dotted(text: String) -> String {
+    if text.is_empty() {
+        return String::from(".");
+    }
+    text
+}
+
+fn letters_text(letters: &[u8]) -> String {
+    dotted(letters.escape_ascii().to_string())
+}
+
+fn lengths_text(lengths: &[u16]) -> String {
+    let lengths: Vec<String> = lengths.iter().map(u16::to_string).collect();
+    dotted(lengths.join(","))
+}
+
+/// A refusal; the place is told for 6 alone.
+fn refusal_text(number: u32, place: usize) -> String {
+    match (number, place) {
+        (6, _) => format!("refused 6 {place}"),
+        (_, 0) => format!("refused {number}"),
+        _ => format!("refused {number} with place {place}"),
+    }
+}
+
+fn verdict_text(verdict: Verdict) -> String {
+    let named = |name: &str, place: usize, symbol: u8| {
+        format!("{name}_{place}_{}", oracle::letter_of(symbol) as char)
+    };
+    match verdict {
+        Verdict::Read(Edit::None) => String::from("clean"),
+        Verdict::Read(Edit::Sub { place, symbol }) => named("sub", place, symbol),
+        Verdict::Read(Edit::Del { place, symbol }) => named("del", place, symbol),
+        Verdict::Read(Edit::Ins { place, symbol }) => named("ins", place, symbol),
+        Verdict::Lost { step } => format!("lost_{step}"),
+        Verdict::NoStart => String::from("lost_start"),
+    }
+}
+
+fn read_text(message: &[u8], sheet: &[u8], counts: [u32; 3], pieces: &[String]) -> String {
+    let [clean, corrected, lost] = counts;
+    let (message, sheet, pieces) = (hex(message), hex(sheet), pieces.join(" "));
+    format!("{message} {sheet} {clean} {corrected} {lost} | {pieces}")
+}
+
+fn by_oracle(question: &Question) -> Result<String, Refused> {
+    match question {
+        Question::Label { label } => {
+            let (lengths, b) = oracle::read_label(label)?;
+            Ok(format!("{} {b} {}", label[0] >> 4, lengths_text(&lengths)))
+        }
+        Question::WriteLabel { b, lengths, room } => {
+            let mut out = vec![BEFORE; *room];
+            let count = oracle::write_label(lengths, *b, &mut out)?;
+            Ok(hex(&out[..count]))
+        }
+        Question::Write {
+            b,
+            lengths,
+            message,
+            room,
+        } => {
+            let mut out = vec![BEFORE; *room];
+            let count = oracle::write(lengths, *b, message, &mut out)?;
+            Ok(letters_text(&out[..count]))
+        }
+        Question::Read {
+            b,
+            lengths,
+            letters,
+            rooms,
+        } => {
+            let (mut message, mut sheet) = (vec![BEFORE; rooms.0], vec![BEFORE; rooms.1]);
+            let counts = oracle::read(lengths, *b, letters, &mut message, &mut sheet)?;
+            let mut pieces = Vec::new();
+            for segment in oracle::segments(lengths, *b, letters)? {
+                let verdict = verdict_text(segment.verdict);
+                pieces.push(format!("{}-{}:{verdict}", segment.start, segment.end));
+            }
+            let sheet = &sheet[..pieces.len().div_ceil(4)];
+            Ok(read_text(&message[..*b as usize], sheet, counts, &pieces))
+        }
+        Question::Piece {
+            b,
+            lengths,
+            letters,
+            segment,
+        } => {
+            let segments = oracle::segments(lengths, *b, letters);
+            let (start, length) = oracle::piece(&segments, *segment)?;
+            Ok(letters_text(&letters[start..start + length]))
+        }
+        Question::Program { input } => {
+            let (label, strand) = program::two_lines(input);
+            Ok(program::printed(program::reading(label, strand)))
+        }
+    }
+}
+
+fn taken(refusal: u32, place: usize) -> Result<(), String> {
+    if refusal == 0 && place == 0 {
+        return Ok(());
+    }
+    Err(refusal_text(refusal, place))
+}
+
+/// The front of a lent buffer, if the rest is as before.
+fn front(out: &[u8], count: usize) -> Result<&[u8], String> {
+    let (front, rest) = out.split_at_checked(count).ok_or("too many bytes")?;
+    if rest.iter().any(|&byte| byte != BEFORE) {
+        return Err(String::from("bytes behind are changed"));
+    }
+    Ok(front)
+}
+
+/// The needed bytes of a lent buffer, or the refusal if all bytes are as before.
+fn answered(out: &[u8], refusal: u32, place: usize, count: usize) -> Result<&[u8], String> {
+    if refusal != 0 {
+        front(out, 0)?;
+    }
+    taken(refusal, place)?;
+    front(out, count)
+}
+
+fn by_library(question: &Question) -> Result<String, String> {
+    match question {
+        Question::Label { label } => {
+            let got = ffi::read_label(label);
+            let (lengths, rest) = got.lengths.split_at(got.count.min(64));
+            if rest.iter().any(|&length| length != 0) {
+                return Err(String::from("lengths behind the count"));
+            }
+            taken(got.refusal, 0)?;
+            let lengths = lengths_text(lengths);
+            Ok(format!("{} {} {lengths}", label[0] >> 4, got.b))
+        }
+        Question::WriteLabel { b, lengths, room } => {
+            let mut out = vec![BEFORE; *room];
+            let got = ffi::write_label(lengths, *b, &mut out);
+            Ok(hex(answered(&out, got.refusal, got.place, got.length)?))
+        }
+        Question::Write {
+            b,
+            lengths,
+            message,
+            room,
+        } => {
+            let mut out = vec![BEFORE; *room];
+            let got = ffi::write(lengths, *b, message, &mut out);
+            let strand = answered(&out, got.refusal, got.place, got.length)?;
+            Ok(letters_text(strand))
+        }
+        Question::Read {
+            b,
+            lengths,
+            letters,
+            rooms,
+        } => {
+            let (mut message, mut sheet) = (vec![BEFORE; rooms.0], vec![BEFORE; rooms.1]);
+            let got = ffi::read(lengths, *b, letters, &mut message, &mut sheet);
+            let message = answered(&message, got.refusal, got.place, *b as usize)?;
+            let count = lengths.len().div_ceil(4);
+            let sheet = answered(&sheet, got.refusal, got.place, count)?;
+            let mut pieces = Vec::new();
+            for segment in 1..=lengths.len() {
+                let got = ffi::piece(lengths, *b, letters, segment as u32);
+                taken(got.refusal, got.place)?;
+                pieces.push(format!("{}-{}", got.start, got.start + got.length));
+            }
+            let counts = [got.clean, got.corrected, got.lost];
+            Ok(read_text(message, sheet, counts, &pieces))
+        }
+        Question::Piece {
+            b,
+            lengths,
+            letters,
+            segment,
+        } => {
+            let got = ffi::piece(lengths, *b, letters, *segment);
+            taken(got.refusal, got.place)?;
+            let piece = letters.get(got.start..got.start + got.length);
+            Ok(letters_text(piece.ok_or("a piece outside the strand")?))
+        }
+        Question::Program { input } => by_program(input).map_err(|error| error.to_string()),
+    }
+}
+
+fn by_program(input: &[u8]) -> std::io::Result<String> {
+    let mut child = Command::new(READER)
+        .stdin(Stdio::piped())
+        .stdout(Stdio::piped())
+        .spawn()?;
+    if let Some(mut stdin) = child.stdin.take() {
+        // The program may end before it has read all.
+        let _ = stdin.write_all(input);
+    }
+    let output = child.wait_with_output()?;
+    if !output.status.success() {
+        return Ok(format!("ended with {}", output.status));
+    }
+    Ok(String::from_utf8_lossy(&output.stdout).into_owned())
+}
+
+/// The answer without the verdicts of the segments, which no call of the library tells.
+fn without_verdicts(answer: &str) -> String {
+    let words: Vec<&str> = answer
+        .split(' ')
+        .map(|word| word.split(':').next().unwrap_or(word))
+        .collect();
+    words.join(" ")
+}
+
+fn same(side: &str, line: &str, wanted: &str, got: &str) -> bool {
+    if wanted != got {
+        println!("{side}: {line}\n  wanted {wanted}\n  got    {got}");
+    }
+    wanted == got
+}
+
+/// Whether both sides give the answer of a line.
+fn line_holds(line: &str) -> bool {
+    let Some((question, answer)) = line.split_once('\t') else {
+        println!("no answer: {line}");
+        return false;
+    };
+    let Some(asked) = question_of(question) else {
+        println!("not a known question: {line}");
+        return false;
+    };
+    let oracle =
+        by_oracle(&asked).unwrap_or_else(|refused| refusal_text(refused.number, refused.place));
+    let library = by_library(&asked).unwrap_or_else(|refused| refused);
+    match asked {
+        Question::Program { .. } => {
+            let printed = answer.replace('|', "\n") + "\n";
+            same("oracle", question, &printed, &oracle) & same(READER, question, &printed, &library)
+        }
+        Question::Read { .. } => {
+            same("oracle", question, answer, &oracle)
+                & same("library", question, &without_verdicts(answer), &library)
+        }
+        _ => {
+            same("oracle", question, answer, &oracle) & same("library", question, answer, &library)
+        }
+    }
+}
+
+fn main() {
+    let files: Vec<String> = std::env::args().skip(1).collect();
+    let mut failed = files.is_empty();
+    for file in files {
+        let text = std::fs::read_to_string(&file).unwrap_or_default();
+        let lines = text.lines().count();
+        let held = text.lines().filter(|line| line_holds(line)).count();
+        println!("{file}: {lines} lines, {} failed", lines - held);
+        failed |= lines == 0 || held < lines;
+    }
+    if failed {
+        exit(1);
+    }
+}
