@@ -9,7 +9,8 @@ use Rattle.code.specs.Layers.{bits, number, width, syndrome, pair, ones,
 use Rattle.code.specs.Repair.{flips, lefts, puts, linked, firstWith, repair}
 use Rattle.code.specs.Segment.{total, check, sep, syndromeOf, separator, marker, block, segment, lastOf, size}
 use Rattle.code.specs.Edits.{same, firstEdit, judged}
-use Rattle.code.specs.Reading.{isPrefix, twoEqual, threeEqual, separatorAt, checkAgrees, syndromeAgrees, repaired, messageAt, messageWithout, readMessage, clean, endOf, readSegment}
+use Rattle.code.specs.Reading.{isPrefix, twoEqual, threeEqual, separatorAt, checkAgrees, syndromeAgrees}
+use Rattle.code.specs.Reading.{repaired, messageAt, messageWithout, readMessage, clean, endOf, readSegment}
 use Rattle.code.specs.Strands.{above, pairs, firstStart, scan, reading, outcomes, verdictsOf}
 use Rattle.code.specs.Verdicts.{verdictNumber}
 use Rattle.code.specs.declared.Edit.the-variants.{None, Sub, Del, Ins}
@@ -103,5 +104,7 @@ every (r ∷ rs) = right r && every rs
 
 -- every run gives its verdicts
 pub runs-right : T (every runs)
-unfolding every right bits number width syndrome pair ones sumOfPlaces sumFrom firstPower flips lefts puts linked firstWith repair total check sep syndromeOf separator marker block segment lastOf size same firstEdit judged isPrefix twoEqual threeEqual separatorAt checkAgrees syndromeAgrees repaired messageAt messageWithout readMessage clean endOf readSegment above pairs firstStart scan reading
+unfolding every right bits number width syndrome pair ones sumOfPlaces sumFrom firstPower flips lefts puts linked firstWith repair total check sep
+    syndromeOf separator marker block segment lastOf size same firstEdit judged isPrefix twoEqual threeEqual separatorAt checkAgrees
+    syndromeAgrees repaired messageAt messageWithout readMessage clean endOf readSegment above pairs firstStart scan reading
 runs-right = tt

@@ -15,7 +15,8 @@ use Rattle.code.specs.Order.{order}
 use Rattle.code.specs.Writing.{strandOf}
 use Rattle.code.specs.Label.{inBits, fromBits, allAre, labelBytes}
 use Rattle.code.specs.Edits.{same, firstEdit, judged}
-use Rattle.code.specs.Reading.{isPrefix, twoEqual, threeEqual, separatorAt, checkAgrees, syndromeAgrees, repaired, messageAt, messageWithout, readMessage, clean, endOf, readSegment}
+use Rattle.code.specs.Reading.{isPrefix, twoEqual, threeEqual, separatorAt, checkAgrees, syndromeAgrees}
+use Rattle.code.specs.Reading.{repaired, messageAt, messageWithout, readMessage, clean, endOf, readSegment}
 use Rattle.code.specs.Sheet.{marksOf, sheetOf}
 use Rattle.code.specs.Strands.{above, pairs, firstStart, scan, reading, outcomes, messagesOf, verdictsOf}
 

@@ -23,6 +23,7 @@ pub mod EditedBlock
 pub mod HitTail
 pub mod SegmentSteps
 pub mod OpenEnd
+pub mod HitStretch
 pub mod HitSegment
 pub mod EditedSegment
 pub mod OneSegment

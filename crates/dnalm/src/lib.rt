@@ -91,7 +91,9 @@ fn told(wrote: Wrote) -> Written
 // Writes a strand to the front of `out`, as `writer::write` does.
 #[no_mangle]
 pub extern "C" fn dnalm_write(lengths: &[u16], b: u32, message: &[u8], out: &mut [u8]) -> Written
-    ensures { λ r. do let o = order (now (lengths .entry)) b in ⌜ (r, now (out .exit)) ≡ answered fromWrote (writeCall o (now (message .entry)) (now (out .entry))) ⌝ }
+    ensures { λ r. do
+      let o = order (now (lengths .entry)) b in
+          ⌜ (r, now (out .exit)) ≡ answered fromWrote (writeCall o (now (message .entry)) (now (out .entry))) ⌝ }
 {
     told(writer::write(lengths, b, message, out))
 }
@@ -106,8 +108,12 @@ pub extern "C" fn dnalm_read(
     message: &mut [u8],
     sheet: &mut [u8],
 ) -> Counts
-    ensures { λ r. do let o = order (now (lengths .entry)) b in ⌜ (r, (now (message .exit), now (sheet .exit))) ≡ answered fromCounted (readCall o (now (letters .entry)) (now (message .entry)) (now (sheet .entry))) ⌝ }
-    ensures { λ r. do let o = order (now (lengths .entry)) b in ⌜ Demand-3-counts o (now (letters .entry)) (now (message .entry)) (now (sheet .entry)) (r, (now (message .exit), now (sheet .exit))) ⌝ }
+    ensures { λ r. do
+      let call = readCall (order (now (lengths .entry)) b) (now (letters .entry)) (now (message .entry)) (now (sheet .entry)) in
+          ⌜ (r, (now (message .exit), now (sheet .exit))) ≡ answered fromCounted call ⌝ }
+    ensures { λ r. do
+      let o = order (now (lengths .entry)) b in
+          ⌜ Demand-3-counts o (now (letters .entry)) (now (message .entry)) (now (sheet .entry)) (r, (now (message .exit), now (sheet .exit))) ⌝ }
 {
     let counted = reader::read(lengths, b, letters, message, sheet);
     match counted {
@@ -131,7 +137,9 @@ pub extern "C" fn dnalm_read(
 // Answers which stretch of `letters` is the piece of a segment, from 1, as `pieces::locate` does.
 #[no_mangle]
 pub extern "C" fn dnalm_piece(lengths: &[u16], b: u32, letters: &[u8], segment: u32) -> Piece
-    ensures { λ r. do let o = order (now (lengths .entry)) b in ⌜ r ≡ fromLocated (locateCall o (now (letters .entry)) segment) ⌝ }
+    ensures { λ r. do
+      let o = order (now (lengths .entry)) b in
+          ⌜ r ≡ fromLocated (locateCall o (now (letters .entry)) segment) ⌝ }
 {
     let located = pieces::locate(lengths, b, letters, segment);
     match located {
@@ -153,7 +161,9 @@ pub extern "C" fn dnalm_piece(lengths: &[u16], b: u32, letters: &[u8], segment: 
 // Writes the label of an order to the front of `out`, as `label::write` does.
 #[no_mangle]
 pub extern "C" fn dnalm_write_label(lengths: &[u16], b: u32, out: &mut [u8]) -> Written
-    ensures { λ r. do let o = order (now (lengths .entry)) b in ⌜ (r, now (out .exit)) ≡ answered fromWrote (labelCall o (now (out .entry))) ⌝ }
+    ensures { λ r. do
+      let o = order (now (lengths .entry)) b in
+          ⌜ (r, now (out .exit)) ≡ answered fromWrote (labelCall o (now (out .entry))) ⌝ }
 {
     told(label::write(lengths, b, out))
 }

@@ -73,7 +73,9 @@ pub fn piece<'a>(
     number: &mut u8,
     place: &mut usize,
 ) -> &'a [u8]
-    ensures { λ r. do let o = order (now (lengths .entry)) b in ⌜ (now r, (now (number .exit), now (place .exit))) ≡ pieceCall o (now (letters .entry)) segment ⌝ }
+    ensures { λ r. do
+      let o = order (now (lengths .entry)) b in
+          ⌜ (now r, (now (number .exit), now (place .exit))) ≡ pieceCall o (now (letters .entry)) segment ⌝ }
 {
     let located = locate(lengths, b, letters, segment);
     match located {

@@ -30,7 +30,9 @@ fn put_counts(out: &mut [u8], at: usize, clean: u32, corrected: u32, lost: u32) 
 // What letters are read as, for an order, at the front of `out`; the answer is where it ends.
 fn put_reading(out: &mut [u8], lengths: &[u16], b: u32, letters: &[u8]) -> usize
     requires { ⌜ outputRoom ≤ length (now out) ⌝ }
-    ensures { λ r. do let o = order (now (lengths .entry)) b in ⌜ Appended (now (out .entry)) 0 (readText o (now (letters .entry))) (now (out .exit)) r ⌝ }
+    ensures { λ r. do
+      let o = order (now (lengths .entry)) b in
+          ⌜ Appended (now (out .entry)) 0 (readText o (now (letters .entry))) (now (out .exit)) r ⌝ }
 {
     let mut message = [0u8; 128];
     let mut sheet = [0u8; 16];

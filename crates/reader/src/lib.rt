@@ -20,7 +20,9 @@ fn read_symbols(lengths: &[u16], b: u32, s: &[u8], message: &mut [u8], sheet: &m
     requires { ⌜ Received (now s) ⌝ }
     requires { ⌜ Taken (order (now lengths) b) ⌝ }
     requires { ⌜ shortBuffers (order (now lengths) b) (length (now message)) (length (now sheet)) ≡ false ⌝ }
-    ensures { λ r. ⌜ (r, (now (message .exit), now (sheet .exit))) ≡ readAs (outcomes (now (lengths .entry)) (now (s .entry))) (now (message .entry)) (now (sheet .entry)) ⌝ }
+    ensures { λ r. do
+      let os = outcomes (now (lengths .entry)) (now (s .entry)) in
+          ⌜ (r, (now (message .exit), now (sheet .exit))) ≡ readAs os (now (message .entry)) (now (sheet .entry)) ⌝ }
 {
     let mut symbols = [0u8; 512];
     let mut verdicts = [0u32; 64];
@@ -56,8 +58,12 @@ pub fn read(
     message: &mut [u8],
     sheet: &mut [u8],
 ) -> Counted
-    ensures { λ r. do let o = order (now (lengths .entry)) b in ⌜ (r, (now (message .exit), now (sheet .exit))) ≡ readCall o (now (letters .entry)) (now (message .entry)) (now (sheet .entry)) ⌝ }
-    ensures { λ r. do let o = order (now (lengths .entry)) b in ⌜ Demand-3-call o (now (letters .entry)) (now (message .entry)) (now (sheet .entry)) (r, (now (message .exit), now (sheet .exit))) ⌝ }
+    ensures { λ r. do
+      let o = order (now (lengths .entry)) b in
+          ⌜ (r, (now (message .exit), now (sheet .exit))) ≡ readCall o (now (letters .entry)) (now (message .entry)) (now (sheet .entry)) ⌝ }
+    ensures { λ r. do
+      let o = order (now (lengths .entry)) b in
+          ⌜ Demand-3-call o (now (letters .entry)) (now (message .entry)) (now (sheet .entry)) (r, (now (message .exit), now (sheet .exit))) ⌝ }
 {
     let received = received_test(lengths, b, letters.len());
     if let Checked::Refused(r) = received {

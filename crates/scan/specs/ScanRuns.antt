@@ -54,5 +54,6 @@ all [] = true
 all (r ∷ rs) = right r && all rs
 
 pub runs-right : T (all runs)
-unfolding right firstClean letterBefore above pairs clean isPrefix segment block marker separator syndromeOf sep check total pair bits width firstPower syndrome sumOfPlaces sumFrom ones
+unfolding right firstClean letterBefore above pairs clean isPrefix segment block marker separator syndromeOf sep check total pair bits width
+    firstPower syndrome sumOfPlaces sumFrom ones
 runs-right = tt

@@ -20,7 +20,9 @@ ghost use Rattle.write_strand.specs.WriteOutput.{written, writeText, wri
 // What a message is written as, for an order, at the front of `out`; the answer is where it ends.
 fn put_strand(out: &mut [u8], lengths: &[u16], b: u32, message: &[u8]) -> usize
     requires { ⌜ outputRoom ≤ length (now out) ⌝ }
-    ensures { λ r. do let o = order (now (lengths .entry)) b in ⌜ Appended (now (out .entry)) 0 (written (writeCall o (now (message .entry)) (replicate 2048 0))) (now (out .exit)) r ⌝ }
+    ensures { λ r. do
+      let o = order (now (lengths .entry)) b in
+          ⌜ Appended (now (out .entry)) 0 (written (writeCall o (now (message .entry)) (replicate 2048 0))) (now (out .exit)) r ⌝ }
 {
     let mut strand = [0u8; 2048];
     match writer::write(lengths, b, message, &mut strand) {
@@ -35,7 +37,9 @@ fn put_strand(out: &mut [u8], lengths: &[u16], b: u32, message: &[u8]) -> usize
 // The same for the line that holds the message: at most 128 bytes, two digits each, or refused 2.
 fn put_message(out: &mut [u8], lengths: &[u16], b: u32, digits: &[u8]) -> usize
     requires { ⌜ outputRoom ≤ length (now out) ⌝ }
-    ensures { λ r. do let o = order (now (lengths .entry)) b in ⌜ Appended (now (out .entry)) 0 (writeText o (now (digits .entry))) (now (out .exit)) r ⌝ }
+    ensures { λ r. do
+      let o = order (now (lengths .entry)) b in
+          ⌜ Appended (now (out .entry)) 0 (writeText o (now (digits .entry))) (now (out .exit)) r ⌝ }
 {
     let mut message = [0u8; 128];
     match text::hex::decode(digits, &mut message) {

@@ -70,7 +70,9 @@ fn write_letters(lengths: &[u16], message: &[u8], out: &mut [u8])
 // or more than 64, or they do not sum to 4B; 5 `out` has fewer bytes than the strand has letters.
 // The bytes of `out` behind the strand are untouched; a refusal leaves all of `out` as it was.
 pub fn write(lengths: &[u16], b: u32, message: &[u8], out: &mut [u8]) -> Wrote
-    ensures { λ r. do let o = order (now (lengths .entry)) b in ⌜ (r, now (out .exit)) ≡ writeCall o (now (message .entry)) (now (out .entry)) ⌝ }
+    ensures { λ r. do
+      let o = order (now (lengths .entry)) b in
+          ⌜ (r, now (out .exit)) ≡ writeCall o (now (message .entry)) (now (out .entry)) ⌝ }
 {
     let other = message.len() != b as usize;
     let tested = refusal::order_test(lengths, b, other);

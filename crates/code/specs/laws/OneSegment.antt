@@ -23,7 +23,8 @@ use Rattle.code.specs.Conditions.{received, hits, NextUntouched, Allowed
 use Rattle.code.specs.laws.Layout.{Each, none, both}
 use Rattle.code.specs.laws.SegmentSteps.{pre, Reads, Final, length-pre, reads-settled}
 use Rattle.code.specs.laws.OpenEnd.{Follow, final, follows}
-use Rattle.code.specs.laws.HitSegment.{Good, Moved, parts, tail-read}
+use Rattle.code.specs.laws.HitStretch.{Good, Moved, parts}
+use Rattle.code.specs.laws.HitSegment.{tail-read}
 use Rattle.code.specs.laws.EditedSegment.{ending, message-edit, marker-edit}
 
 -- an edit behind separator's first place hits

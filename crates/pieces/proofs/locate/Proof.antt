@@ -31,42 +31,21 @@ whole c = sym (c .before .before .before .decode .ensures .0) ∙ c .enum-told2 
 inside : (c : tie.Else1) → (1 ≤ c .before .before .before .before .before .before .before .before .before .before .before .before .args .segment) × (c .before .before .before .before .before .before .before .before .before .before .before .before .args .segment ≤ length (c .before .before .before .before .before .before .before .before .before .before .before .before .args .lengths .now))
 inside c = let a = c .before .before .before .before .before .before .before .before .before .before .before .before .args in outside-not 1 (length (a .lengths .now)) (a .segment) (sym (c .before .outside .ensures) ∙ c .if1 .left)
 
-received-test-requires : tie.Need-received-test-requires
-received-test-requires c κs = search needs
-
-enum-known-received : tie.Need-enum-known-received
-enum-known-received c = search needs
-
 returns : tie.Need-returns
 returns c =
     let b = c .before .before .before .before .before .before in
     rw (received-refused (order-of b) (length (b .args .letters .now)) _ _ (sym (c .before .before .before .received-test .ensures) ∙ c .before .received .given .1))
-
-enum-told : tie.Need-enum-told
-enum-told c = search needs
-
-slice-aggregate-decode : tie.Need-slice-aggregate-decode
-slice-aggregate-decode c = search needs
 
 decode-requires : tie.Need-decode-requires
 decode-requires c κs =
     let b = c .before .before .before .before .before .before in
     received-fine (order-of b) (length (b .args .letters .now)) (taken (c .before)) .1
 
-enum-known-decoded : tie.Need-enum-known-decoded
-enum-known-decoded c = search needs
-
 returns-2 : tie.Need-returns-2
 returns-2 c =
     let b = c .before .before .before .before .before .before .before .before .before .before .before in
     let foreign = sym (c .before .before .before .before .decode .ensures .0) ∙ c .before .decoded .given .1 in
     rw (piece-foreign (order-of b) (b .args .letters .now) (taken (c .before .before .before .before .before .before)) (b .args .segment) _ foreign)
-
-enum-told-2 : tie.Need-enum-told-2
-enum-told-2 c = search needs
-
-outside-requires : tie.Need-outside-requires
-outside-requires c κs = search needs
 
 returns-3 : tie.Need-returns-3
 returns-3 c =
@@ -103,16 +82,16 @@ pub locate-spec : {M : Type 1} → statement M
 locate-spec =
     tie.close
     (tie.spec
-    received-test-requires
-    enum-known-received
+    (λ c κs. search needs)
+    (λ c. search needs)
     returns
-    enum-told
-    slice-aggregate-decode
+    (λ c. search needs)
+    (λ c. search needs)
     decode-requires
-    enum-known-decoded
+    (λ c. search needs)
     returns-2
-    enum-told-2
-    outside-requires
+    (λ c. search needs)
+    (λ c κs. search needs)
     returns-3
     array-share-prefix-s
     slice-aggregate-span-of

@@ -7,12 +7,6 @@ use borrow.Author.Needs.{needs}
 use Rattle.pieces.proofs.piece.Statement.{statement}
 use Rattle.pieces.proofs.piece.Tie as tie
 
-locate-requires : tie.Need-locate-requires
-locate-requires c κs = search needs
-
-enum-known-located : tie.Need-enum-known-located
-enum-known-located c = search needs
-
 sub-result : tie.Need-sub-result
 sub-result c =
     let a = c .before .before .before .before .before .before .args in
@@ -31,24 +25,6 @@ part-result-end c =
     let p = placed (order (a .lengths .now) (a .b)) (a .letters .now) (a .segment) _ _ (sym (c .before .before .before .locate .ensures) ∙ c .before .located .given .1) in
     omega arith
 
-enum-known-located-2 : tie.Need-enum-known-located-2
-enum-known-located-2 c = search needs
-
-number-of-requires : tie.Need-number-of-requires
-number-of-requires c κs = search needs
-
-place-of-requires : tie.Need-place-of-requires
-place-of-requires c κs = search needs
-
-sub-result-2 : tie.Need-sub-result-2
-sub-result-2 c = search needs
-
-part-result-start-2 : tie.Need-part-result-start-2
-part-result-start-2 c = search needs
-
-part-result-end-2 : tie.Need-part-result-end-2
-part-result-end-2 c = search needs
-
 returns : tie.Need-returns
 returns c =
     let a = c .before .before .before .before .before .before .before .args in
@@ -65,16 +41,16 @@ pub piece-spec : {M : Type 1} → statement M
 piece-spec =
     tie.close
     (tie.spec
-    locate-requires
-    enum-known-located
+    (λ c κs. search needs)
+    (λ c. search needs)
     sub-result
     part-result-start
     part-result-end
-    enum-known-located-2
-    number-of-requires
-    place-of-requires
-    sub-result-2
-    part-result-start-2
-    part-result-end-2
+    (λ c. search needs)
+    (λ c κs. search needs)
+    (λ c κs. search needs)
+    (λ c. search needs)
+    (λ c. search needs)
+    (λ c. search needs)
     returns
     returns-2)

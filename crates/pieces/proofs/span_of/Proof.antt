@@ -19,9 +19,6 @@ order-of b = order (b .args .lengths .now) (b .args .b)
 ordered : (b : tie.Start) → Ordered (order-of b) false
 ordered b = order-fine (order-of b) false (b .pre .1 .0)
 
-mul-n : tie.Need-mul-n
-mul-n c = search needs
-
 array-borrow-prefix-symbols : tie.Need-array-borrow-prefix-symbols
 array-borrow-prefix-symbols c = omega (arith, ordered (c .before .before) .most-bytes)
 
@@ -59,9 +56,6 @@ returns c =
     let a = b .args in
     first-span _ _ (outcomes (a .lengths .now) (a .s .now)) (c .before .before .before .before .read-layout .ensures .1 .1) (a .i) (c .if1 .taken) (rw (length-reading false 0 (a .lengths .now) (a .s .now) (a .s .now)) (b .pre .1 .1))
 
-sub-t11 : tie.Need-sub-t11
-sub-t11 c = search needs
-
 mul-t21 : tie.Need-mul-t21
 mul-t21 c = let o = ordered (c .before .before .before .before .before .before .before .before .before .before) in search needs
 
@@ -78,7 +72,7 @@ pub span-of-spec : {M : Type 1} → statement M
 span-of-spec =
     tie.close
     (tie.spec
-    mul-n
+    (λ c. search needs)
     array-borrow-prefix-symbols
     slice-aggregate-read-layout
     array-borrow-prefix-verdicts
@@ -89,7 +83,7 @@ span-of-spec =
     mul-end
     array-read-end
     returns
-    sub-t11
+    (λ c. search needs)
     mul-t21
     array-read-t25
     returns-2)

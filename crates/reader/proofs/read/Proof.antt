@@ -34,20 +34,11 @@ whole c = sym (c .before .before .before .decode .ensures .0) ∙ c .enum-told2 
 front : (c : tie.After-enum-told2) → take (length (c .before .before .before .before .before .before .before .before .before .before .before .before .before .before .args .letters .now)) (c .before .before .before .decode .last .1 .0) ≡ legible (c .before .before .before .before .before .before .before .before .before .before .before .before .before .before .args .letters .now)
 front c = decoded-front _ _ _ (c .before .before .before .decode .ensures .1) (whole c)
 
-received-test-requires : tie.Need-received-test-requires
-received-test-requires c κs = search needs
-
-enum-known-received : tie.Need-enum-known-received
-enum-known-received c = search needs
-
 returns : tie.Need-returns
 returns c =
     let a = c .before .before .before .before .before .before .before .before .args in
     promised (order-of (c .before .before .before .before .before .before .before .before)) (a .letters .now) (a .message .now) (a .sheet .now) _
     (rw (received-refused (order-of (c .before .before .before .before .before .before .before .before)) (length (a .letters .now)) _ _ (sym (c .before .before .before .received-test .ensures) ∙ c .before .received .given .1)))
-
-enum-told : tie.Need-enum-told
-enum-told c = search needs
 
 short-buffers-requires : tie.Need-short-buffers-requires
 short-buffers-requires c κs =
@@ -61,16 +52,10 @@ returns-2 c =
     promised (order-of (c .before .before .before .before .before .before .before .before .before)) (a .letters .now) (a .message .now) (a .sheet .now) _
     (rw (read-short (order-of (c .before .before .before .before .before .before .before .before .before)) (a .letters .now) (taken (c .before .before)) (length (a .message .now)) (length (a .sheet .now)) short))
 
-slice-aggregate-decode : tie.Need-slice-aggregate-decode
-slice-aggregate-decode c = search needs
-
 decode-requires : tie.Need-decode-requires
 decode-requires c κs =
     let b = c .before .before .before .before .before .before .before .before .before .before in
     received-fine (order-of b) (length (b .args .letters .now)) (taken (c .before .before .before)) .1
-
-enum-known-decoded : tie.Need-enum-known-decoded
-enum-known-decoded c = search needs
 
 returns-3 : tie.Need-returns-3
 returns-3 c =
@@ -78,9 +63,6 @@ returns-3 c =
     let foreign = sym (c .before .before .before .before .decode .ensures .0) ∙ c .before .decoded .given .1 in
     promised (order-of (c .before .before .before .before .before .before .before .before .before .before .before .before .before .before .before)) (a .letters .now) (a .message .now) (a .sheet .now) _
     (rw (read-foreign (order-of (c .before .before .before .before .before .before .before .before .before .before .before .before .before .before .before)) (a .letters .now) (taken (c .before .before .before .before .before .before .before .before)) (length (a .message .now)) (length (a .sheet .now)) _ (not-short (c .before .before .before .before .before .before)) foreign))
-
-enum-told-2 : tie.Need-enum-told-2
-enum-told-2 c = search needs
 
 array-share-prefix-s : tie.Need-array-share-prefix-s
 array-share-prefix-s c = decoded-inside _ _ _ (c .before .before .before .decode .ensures .1) (whole c)
@@ -94,12 +76,6 @@ read-symbols-requires c κs =
     let r = received-fine (order-of (c .before .before .before .before .before .before .before .before .before .before .before .before .before .before .before .before .before)) (length (a .letters .now)) (taken (c .before .before .before .before .before .before .before .before .before .before)) in
     (decoded-received _ (a .letters .now) _ (c .before .before .before .before .before .before .decode .ensures .1) (whole (c .before .before .before)) (r .1), (r .0, not-short (c .before .before .before .before .before .before .before .before)))
 
-same-length : tie.Need-same-length
-same-length c = search needs
-
-same-length-2 : tie.Need-same-length-2
-same-length-2 c = search needs
-
 returns-4 : tie.Need-returns-4
 returns-4 c =
     let a = c .before .before .before .before .before .before .before .before .before .before .before .before .before .before .before .before .before .before .before .before .before .before .args in
@@ -112,20 +88,20 @@ pub read-spec : {M : Type 1} → statement M
 read-spec =
     tie.close
     (tie.spec
-    received-test-requires
-    enum-known-received
+    (λ c κs. search needs)
+    (λ c. search needs)
     returns
-    enum-told
+    (λ c. search needs)
     short-buffers-requires
     returns-2
-    slice-aggregate-decode
+    (λ c. search needs)
     decode-requires
-    enum-known-decoded
+    (λ c. search needs)
     returns-3
-    enum-told-2
+    (λ c. search needs)
     array-share-prefix-s
     slice-aggregate-read-symbols
     read-symbols-requires
-    same-length
-    same-length-2
+    (λ c. search needs)
+    (λ c. search needs)
     returns-4)

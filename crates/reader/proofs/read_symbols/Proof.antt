@@ -51,9 +51,6 @@ marks-front c =
     let numbers = verdicts-front (c .before .before .before .before .before .before .before .before .before .before .before) _ .entries in
     front-put _ _ (drop (length (b .args .lengths .now)) (replicate 64 0)) _ (c .marks-of .ensures ∙ ap (λ (ns : List ℕ). marksOf (map verdictOf ns)) numbers ∙ marks-back vs) (marks-length (order-of b) (b .pre .1 .0) (b .args .s .now))
 
-mul-n : tie.Need-mul-n
-mul-n c = search needs
-
 array-borrow-prefix-symbols : tie.Need-array-borrow-prefix-symbols
 array-borrow-prefix-symbols c = omega (arith, ordered (c .before .before .before .before) .most-bytes)
 
@@ -130,12 +127,6 @@ slice-aggregate-counts-of c = simp length-take (omega (arith, marks-front (c .be
 counts-of-requires : tie.Need-counts-of-requires
 counts-of-requires c κs = simp length-take (omega (arith, ordered (c .before .before .before .before .before .before .before .before .before .before .before .before .before .before .before .before .before .before .before .before .before .before .before .before .before .before) .most-segments))
 
-same-length : tie.Need-same-length
-same-length c = search needs
-
-same-length-2 : tie.Need-same-length-2
-same-length-2 c = search needs
-
 returns : tie.Need-returns
 returns c =
     let a = c .before .before .before .before .before .before .before .before .before .before .before .before .before .before .before .before .before .before .before .before .before .before .before .before .before .before .before .args in
@@ -150,7 +141,7 @@ pub read-symbols-spec : {M : Type 1} → statement M
 read-symbols-spec =
     tie.close
     (tie.spec
-    mul-n
+    (λ c. search needs)
     array-borrow-prefix-symbols
     slice-aggregate-read-layout
     array-borrow-prefix-verdicts
@@ -172,6 +163,6 @@ read-symbols-spec =
     array-share-prefix-marks-2
     slice-aggregate-counts-of
     counts-of-requires
-    same-length
-    same-length-2
+    (λ c. search needs)
+    (λ c. search needs)
     returns)

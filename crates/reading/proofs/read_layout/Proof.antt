@@ -18,9 +18,6 @@ loop-holds c =
     let h = c .before .before .before .before .before .pre in
     walk-begin (a .lengths .now) (a .s .now) (a .symbols .now) (a .verdicts .now) (a .ends .now) (h .0 .1) (h .1 .0) (h .1 .1) (h .1 .2)
 
-shared-slice-read-to : tie.Need-shared-slice-read-to Inv-loop μ-loop
-shared-slice-read-to c = search needs
-
 cast-to : tie.Need-cast-to Inv-loop μ-loop
 cast-to c =
     let a = c .before .before .before .before .before .before .before .before .args in
@@ -35,21 +32,6 @@ add-to c =
     let first = first-length (l .rest .now) (c .before .loop-test .taken) in
     let room = walk-room (a .lengths .now) (a .s .now) _ _ _ _ _ _ _ (l .inv) _ _ first in
     search needs
-
-sub-rest : tie.Need-sub-rest Inv-loop μ-loop
-sub-rest c = search needs
-
-part-rest-start : tie.Need-part-rest-start Inv-loop μ-loop
-part-rest-start c = search needs
-
-part-rest-end : tie.Need-part-rest-end Inv-loop μ-loop
-part-rest-end c = search needs
-
-sub-read-segment : tie.Need-sub-read-segment Inv-loop μ-loop
-sub-read-segment c = search needs
-
-part-read-segment-start : tie.Need-part-read-segment-start Inv-loop μ-loop
-part-read-segment-start c = search needs
 
 part-read-segment-end : tie.Need-part-read-segment-end Inv-loop μ-loop
 part-read-segment-end c =
@@ -75,21 +57,12 @@ number-of-requires c κs =
     let g = c .before .before .read-segment in
     walk-numbered (a .lengths .now) (a .s .now) _ _ _ _ _ _ _ (l .inv) _ _ first _ (g .result) (g .ensures) (c .before .before .before .before .before .before .before .before .before .before .before .before .before .pre .0 .0)
 
-mul-verdicts : tie.Need-mul-verdicts Inv-loop μ-loop
-mul-verdicts c = search needs
-
 slice-write-verdicts : tie.Need-slice-write-verdicts Inv-loop μ-loop
 slice-write-verdicts c =
     let a = c .before .before .before .before .before .before .before .before .before .before .before .before .before .before .args in
     let l = c .before .before .before .before .before .before .before .before .loop in
     let first = first-length (l .rest .now) (c .before .before .before .before .before .before .before .loop-test .taken) in
     omega (arith, l .inv .verdicts-room, walk-inside (a .lengths .now) (a .s .now) _ _ _ _ _ _ _ (l .inv) _ _ first)
-
-next-place-requires : tie.Need-next-place-requires Inv-loop μ-loop
-next-place-requires c κs = search needs
-
-mul-ends : tie.Need-mul-ends Inv-loop μ-loop
-mul-ends c = search needs
 
 slice-write-ends : tie.Need-slice-write-ends Inv-loop μ-loop
 slice-write-ends c =
@@ -139,21 +112,21 @@ read-layout-spec =
     Inv-loop
     μ-loop
     loop-holds
-    shared-slice-read-to
+    (λ c. search needs)
     cast-to
     add-to
-    sub-rest
-    part-rest-start
-    part-rest-end
-    sub-read-segment
-    part-read-segment-start
+    (λ c. search needs)
+    (λ c. search needs)
+    (λ c. search needs)
+    (λ c. search needs)
+    (λ c. search needs)
     part-read-segment-end
     read-segment-requires
     number-of-requires
-    mul-verdicts
+    (λ c. search needs)
     slice-write-verdicts
-    next-place-requires
-    mul-ends
+    (λ c κs. search needs)
+    (λ c. search needs)
     slice-write-ends
     add-i
     loop-less

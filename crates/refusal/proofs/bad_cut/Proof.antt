@@ -12,17 +12,8 @@ use Rattle.refusal.proofs.bad_cut.Tie as tie
 inside : (c : tie.Else1) → outside 1 mostSegments (length (c .before .before .before .args .lengths .now)) ≡ false
 inside c = sym (c .before .outside .ensures) ∙ c .if1 .left
 
-outside-requires : tie.Need-outside-requires
-outside-requires c κs = search needs
-
 sum-of-requires : tie.Need-sum-of-requires
 sum-of-requires c κs = (c .before .before .before .pre .0, outside-not 1 mostSegments _ (inside c) .1)
-
-cast-result : tie.Need-cast-result
-cast-result c = search needs
-
-mul-result : tie.Need-mul-result
-mul-result c = search needs
 
 returns : tie.Need-returns
 returns c =
@@ -34,4 +25,4 @@ returns-2 c = rw (inside (c .before), c .sum-of .ensures)
 
 pub bad-cut-spec : {M : Type 1} → statement M
 bad-cut-spec =
-    tie.close (tie.spec outside-requires sum-of-requires cast-result mul-result returns returns-2)
+    tie.close (tie.spec (λ c κs. search needs) sum-of-requires (λ c. search needs) (λ c. search needs) returns returns-2)

@@ -12,19 +12,10 @@ use borrow.Author.Needs.{needs}
 use Rattle.refusal.proofs.received_test.Statement.{statement}
 use Rattle.refusal.proofs.received_test.Tie as tie
 
-order-test-requires : tie.Need-order-test-requires
-order-test-requires c κs = search needs
-
-enum-known-tested : tie.Need-enum-known-tested
-enum-known-tested c = search needs
-
 returns : tie.Need-returns
 returns c =
     let a = c .before .before .before .before .before .args in
     sym (order-refused (order (a .lengths .now) (a .b)) false _ (refuse (overlong (a .n)) Overlong Fine) (sym (c .before .before .before .order-test .ensures) ∙ c .before .tested .given .1))
-
-enum-told : tie.Need-enum-told
-enum-told c = search needs
 
 returns-2 : tie.Need-returns-2
 returns-2 c =
@@ -38,4 +29,4 @@ returns-3 c =
 
 pub received-test-spec : {M : Type 1} → statement M
 received-test-spec =
-    tie.close (tie.spec order-test-requires enum-known-tested returns enum-told returns-2 returns-3)
+    tie.close (tie.spec (λ c κs. search needs) (λ c. search needs) returns (λ c. search needs) returns-2 returns-3)

@@ -26,20 +26,11 @@ taken c = sym (c .before .before .order-test .ensures) ∙ c .enum-told .given .
 ordered : (c : tie.After-enum-told) → Ordered (order-of (c .before .before .before .before .before .before)) (other-size (c .before .before .before .before .before .before))
 ordered c = order-fine (order-of (c .before .before .before .before .before .before)) (other-size (c .before .before .before .before .before .before)) (taken c)
 
-order-test-requires : tie.Need-order-test-requires
-order-test-requires c κs = search needs
-
-enum-known-tested : tie.Need-enum-known-tested
-enum-known-tested c = search needs
-
 returns : tie.Need-returns
 returns c =
     let b = c .before .before .before .before .before .before .before in
     let e = sym (c .before .before .before .order-test .ensures) ∙ c .before .tested .given .1 in
     rw (write-refused (order-of b) (b .args .message .now) (length (b .args .out .now)) _ e)
-
-enum-told : tie.Need-enum-told
-enum-told c = search needs
 
 extent-of-requires : tie.Need-extent-of-requires
 extent-of-requires c κs = let o = ordered c in (o .lengths, o .some-segments, o .most-segments)
@@ -56,9 +47,6 @@ write-letters-requires c κs =
     let n = ordered-length (order-of b) (b .args .message .now) 0 (taken (c .before .before .before)) in
     ((lengths-within (o .lengths) (omega arith), omega (arith, n, o .most-bytes)), (omega (arith, n, o .whole), omega (arith, c .before .before .extent-of .ensures, c .before .if1 .left)))
 
-same-length : tie.Need-same-length
-same-length c = search needs
-
 returns-3 : tie.Need-returns-3
 returns-3 c =
     let b = c .before .before .before .before .before .before .before .before .before .before .before .before in
@@ -71,12 +59,12 @@ pub write-spec : {M : Type 1} → statement M
 write-spec =
     tie.close
     (tie.spec
-    order-test-requires
-    enum-known-tested
+    (λ c κs. search needs)
+    (λ c. search needs)
     returns
-    enum-told
+    (λ c. search needs)
     extent-of-requires
     returns-2
     write-letters-requires
-    same-length
+    (λ c. search needs)
     returns-3)

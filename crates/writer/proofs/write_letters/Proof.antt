@@ -18,18 +18,6 @@ front c =
     let w = c .write-layout in
     front-is (a .lengths .now) (a .message .now) (b .pre .1 .0) (u .last .1 .0) _ (a .out .now) (w .last .1 .1 .0) (w .result) (u .ensures) (w .ensures .0) (w .ensures .1)
 
-slice-aggregate-unpack : tie.Need-slice-aggregate-unpack
-slice-aggregate-unpack c = search needs
-
-unpack-requires : tie.Need-unpack-requires
-unpack-requires c κs = search needs
-
-mul-n : tie.Need-mul-n
-mul-n c = search needs
-
-array-share-prefix-buffer : tie.Need-array-share-prefix-buffer
-array-share-prefix-buffer c = search needs
-
 slice-aggregate-write-layout : tie.Need-slice-aggregate-write-layout
 slice-aggregate-write-layout c = sym (length-take-le (4 * length (c .before .before .before .before .before .before .before .args .message .now)) (c .before .before .unpack .last .1 .0) (omega arith))
 
@@ -49,9 +37,6 @@ slice-aggregate-spell c = let w = c .before .before .before in sym (length-take-
 spell-requires : tie.Need-spell-requires
 spell-requires c κs = front (c .before .before .before) .below
 
-same-length : tie.Need-same-length
-same-length c = search needs
-
 returns : tie.Need-returns
 returns c = rw (c .before .before .spell .ensures) (front (c .before .before .before .before .before .before) .spelled)
 
@@ -59,14 +44,14 @@ pub write-letters-spec : {M : Type 1} → statement M
 write-letters-spec =
     tie.close
     (tie.spec
-    slice-aggregate-unpack
-    unpack-requires
-    mul-n
-    array-share-prefix-buffer
+    (λ c. search needs)
+    (λ c κs. search needs)
+    (λ c. search needs)
+    (λ c. search needs)
     slice-aggregate-write-layout
     write-layout-requires
     slice-relend-prefix-spell
     slice-aggregate-spell
     spell-requires
-    same-length
+    (λ c. search needs)
     returns)
