@@ -78,6 +78,7 @@ enum Job {
     Untouched,
     OneEdit,
     Damaged,
+    WithN,
 }
 
 struct Set {
@@ -87,8 +88,20 @@ struct Set {
     strands: Vec<Vec<u8>>,
 }
 
+/// The first sequence of a number whose letters are A, T, C and G alone.
+fn sequence(number: u64) -> Rng {
+    let mut seed = SEED;
+    loop {
+        let rng = Rng::new(seed, number);
+        if !rng.clone().letters(200).contains(&b'N') {
+            return rng;
+        }
+        seed += 1;
+    }
+}
+
 fn set(job: Job, lengths: &[u16], b: u32) -> Set {
-    let mut rng = Rng::new(SEED, (lengths[0] as u32 * 1000 + b) as u64);
+    let mut rng = sequence((lengths[0] as u32 * 1000 + b) as u64);
     let mut messages = Vec::new();
     let mut all = Vec::new();
     for _ in 0..STRANDS {
@@ -113,6 +126,10 @@ fn set(job: Job, lengths: &[u16], b: u32) -> Set {
                 let damage = rng.of(&damages);
                 strands::damaged(&mut rng, damage, lengths, strand)
             }
+            Job::WithN => strand
+                .iter()
+                .map(|&letter| if rng.once_in(100) { b'N' } else { letter })
+                .collect(),
         });
         messages.push(message);
     }
@@ -217,16 +234,25 @@ fn layouts() -> Vec<(&'static str, Vec<u16>, u32)> {
     layouts
 }
 
+/// Whether the other side takes N; one that does not refuses the strand.
+fn rival_takes_n() -> bool {
+    read_one(Side::Tuned, &[4], 1, b"ATCGCANAGGC", &mut Room::new()) != [0; 3]
+}
+
 fn table() {
+    let mut jobs = vec![
+        ("write", Job::Write),
+        ("read untouched", Job::Untouched),
+        ("read one-edit", Job::OneEdit),
+        ("read damaged", Job::Damaged),
+    ];
+    if rival_takes_n() {
+        jobs.push(("read with N", Job::WithN));
+    }
     println!("million letters a second, best of {ROUNDS} rounds; ratio library/{RIVAL}, median");
     println!("{:<28} {:>9} {:>9} {:>7}", "", "library", RIVAL, "ratio");
     for (layout, lengths, b) in layouts() {
-        for (name, job) in [
-            ("write", Job::Write),
-            ("read untouched", Job::Untouched),
-            ("read one-edit", Job::OneEdit),
-            ("read damaged", Job::Damaged),
-        ] {
+        for &(name, job) in &jobs {
             let set = set(job, &lengths, b);
             agree(job, &set);
             let measured = measure(job, &set);

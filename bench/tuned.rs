@@ -1,6 +1,9 @@
 //! The independent reader and writer of DNA-LM strands, tuned by hand: safe Rust, no allocation.
 //! It keeps the ten reading steps of docs/SPECIFICATION.md, the symbols of the strand in an array of 2,048,
-//! and a verdict for each segment, from which mark, sheet and counts are taken. Equal lengths have a walk of their own.
+//! and a verdict for each segment, from which mark, sheet and counts are taken. Equal lengths have a walk of their own,
+//! and so have strands with an N.
+
+use std::ops::Deref;
 
 /// It takes lengths that are not equal.
 pub const MIXED: bool = true;
@@ -27,7 +30,11 @@ enum Edit {
 #[derive(Clone, Copy, Debug, PartialEq, Eq)]
 enum Verdict {
     Read(Edit),
-    Lost { step: u32 },
+    /// The piece equals its segment with N taken as A, and has an N.
+    Unknown,
+    Lost {
+        step: u32,
+    },
     NoStart,
 }
 
@@ -372,7 +379,7 @@ fn write_body<const K: usize, const C: usize>(part: &[u8; 16], body: &mut [u8]) 
     (2 * (high & 1) + (low & 1)) as u8
 }
 
-/// A received strand in symbols; past its end stands PAST.
+/// A received strand in symbols, N taken as A; past its end stands PAST.
 struct Strand {
     symbols: [u8; 2048],
     length: usize,
@@ -389,10 +396,13 @@ fn symbols_of(letters: &[u8; 8], foreign: &mut u64) -> [u8; 8] {
     (x & 2 * ONES | low & ONES).to_le_bytes()
 }
 
+/// A bit for each place of a strand, the first one lowest; the last 16 bytes are there for a load at its end.
+type Places = [u8; 256 + 16];
+
 impl Strand {
-    /// Test 6, eight letters at once, the last eight counted from the end.
+    /// Eight letters at once, the last eight counted from the end; hands back whether all are A, T, C or G.
     #[inline(always)]
-    fn fill(&mut self, letters: &[u8]) -> Result<(), Refused> {
+    fn fill(&mut self, letters: &[u8]) -> bool {
         let mut foreign = 0;
         let symbols = &mut self.symbols[..letters.len()];
         let (eights, _) = letters.as_chunks::<8>();
@@ -408,10 +418,32 @@ impl Strand {
             let filled = symbols_of(&eight, &mut foreign);
             symbols.copy_from_slice(&filled[..letters.len()]);
         }
-        if foreign != 0 {
-            return Err(first_foreign(letters));
+        foreign == 0
+    }
+
+    /// Makes each N an A, and hands back where it stands; no letter is foreign.
+    #[inline(always)]
+    fn unknown_as_a(&mut self, letters: &[u8]) -> Places {
+        let mut places = [0; 256 + 16];
+        let mut note = |place: usize| {
+            self.symbols[place] = 0;
+            places[place / 8] |= 1 << (place % 8);
+        };
+        let (eights, rest) = letters.as_chunks::<8>();
+        for (c, eight) in eights.iter().enumerate() {
+            // Of the five letters N alone has bit 3.
+            let mut unknown = u64::from_le_bytes(*eight) & 8 * ONES;
+            while unknown != 0 {
+                note(8 * c + unknown.trailing_zeros() as usize / 8);
+                unknown &= unknown - 1;
+            }
         }
-        Ok(())
+        for (i, &x) in rest.iter().enumerate() {
+            if x == b'N' {
+                note(8 * eights.len() + i);
+            }
+        }
+        places
     }
 
     /// The symbols from a place on, where the array holds enough of them.
@@ -431,12 +463,68 @@ impl Strand {
     }
 }
 
+/// Whether a byte is one of the five letters; no comparison is skipped, so that many bytes are tested at once.
+#[inline(always)]
+fn is_letter(x: u8) -> bool {
+    (x == b'A') | (x == b'T') | (x == b'C') | (x == b'G') | (x == b'N')
+}
+
 #[cold]
 fn first_foreign(letters: &[u8]) -> Refused {
-    let place = letters.iter().position(|x| !LETTERS.contains(x));
+    let place = letters.iter().position(|&x| !is_letter(x));
     Refused {
         number: 6,
         place: place.unwrap_or(0),
+    }
+}
+
+/// A strand as it is read.
+trait Received: Copy + Deref<Target = Strand> {
+    /// Whether an N stands in a segment, from its start to its end.
+    fn unknown_in(self, start: usize, end: usize) -> bool;
+
+    /// The verdict on a segment that is read at p.
+    #[inline(always)]
+    fn verdict<const C: usize>(self, p: usize, segment: &Segment<C>) -> Verdict {
+        if self.unknown_in(p, segment.end) && segment.edit == Edit::None {
+            Verdict::Unknown
+        } else {
+            Verdict::Read(segment.edit)
+        }
+    }
+}
+
+/// A strand without an N.
+impl Received for &Strand {
+    #[inline(always)]
+    fn unknown_in(self, _: usize, _: usize) -> bool {
+        false
+    }
+}
+
+/// A strand with an N in these places.
+#[derive(Clone, Copy)]
+struct WithUnknown<'a> {
+    strand: &'a Strand,
+    places: &'a Places,
+}
+
+impl Deref for WithUnknown<'_> {
+    type Target = Strand;
+
+    #[inline(always)]
+    fn deref(&self) -> &Strand {
+        self.strand
+    }
+}
+
+impl Received for WithUnknown<'_> {
+    #[inline(always)]
+    fn unknown_in(self, start: usize, end: usize) -> bool {
+        let Some(bits) = self.places[start / 8..].first_chunk() else {
+            return false;
+        };
+        u128::from_le_bytes(*bits) >> (start % 8) << (128 - (end - start)) != 0
     }
 }
 
@@ -853,9 +941,9 @@ fn edit_between<const C: usize>(
     (place <= agree).then_some(Edit::Ins { place, symbol })
 }
 
-/// Whether a clean segment with a marker starts at p.
+/// Whether a clean segment with a marker starts at p; one with an N is not clean.
 #[inline(never)]
-fn clean_at<const K: usize, const C: usize>(strand: &Strand, p: usize, f: u8) -> bool {
+fn clean_at<const K: usize, const C: usize>(strand: impl Received, p: usize, f: u8) -> bool {
     if p + Shape::<K, C>::BODY + 2 > strand.length {
         return false;
     }
@@ -875,12 +963,13 @@ fn clean_at<const K: usize, const C: usize>(strand: &Strand, p: usize, f: u8) ->
         return false;
     };
     let x = message_at::<K, C>(w, 2);
-    Tail::of::<K, C>(&x).stands::<K, C>(near)
+    let stands = Tail::of::<K, C>(&x).stands::<K, C>(near);
+    stands && !strand.unknown_in(p, p + Shape::<K, C>::BODY + 2)
 }
 
 /// The segment after one that is read.
 trait Next {
-    fn clean_at(&self, strand: &Strand, p: usize, f: u8) -> bool;
+    fn clean_at(&self, strand: impl Received, p: usize, f: u8) -> bool;
 }
 
 /// It has the same length.
@@ -888,7 +977,7 @@ struct Same<const K: usize, const C: usize>;
 
 impl<const K: usize, const C: usize> Next for Same<K, C> {
     #[inline(always)]
-    fn clean_at(&self, strand: &Strand, p: usize, f: u8) -> bool {
+    fn clean_at(&self, strand: impl Received, p: usize, f: u8) -> bool {
         clean_at::<K, C>(strand, p, f)
     }
 }
@@ -898,14 +987,14 @@ struct Other(u16);
 
 impl Next for Other {
     #[inline(always)]
-    fn clean_at(&self, strand: &Strand, p: usize, f: u8) -> bool {
+    fn clean_at(&self, strand: impl Received, p: usize, f: u8) -> bool {
         by_k!(self.0, clean_at(strand, p, f), false)
     }
 }
 
 /// Step 8, where the syndrome does not tell the end.
 #[inline(always)]
-fn end_by_next(strand: &Strand, own: usize, f: u8, next: &impl Next) -> Option<usize> {
+fn end_by_next(strand: impl Received, own: usize, f: u8, next: &impl Next) -> Option<usize> {
     [own, own - 1, own + 1]
         .into_iter()
         .find(|&end| next.clean_at(strand, end, f))
@@ -913,7 +1002,11 @@ fn end_by_next(strand: &Strand, own: usize, f: u8, next: &impl Next) -> Option<u
 
 /// Step 10: the start of the next clean segment, which has K symbols.
 #[inline(never)]
-fn scan<const K: usize, const C: usize>(strand: &Strand, p: usize, own: usize) -> Option<usize> {
+fn scan<const K: usize, const C: usize>(
+    strand: impl Received,
+    p: usize,
+    own: usize,
+) -> Option<usize> {
     // A start needs two equal symbols for its marker and three for its separator.
     let mut starts = u32::MAX;
     if let Some(near) = strand.symbols.get(own - 8..own + K + 24) {
@@ -982,12 +1075,13 @@ fn clean_segment_at<const K: usize, const C: usize>(
 /// Steps 1 to 9 for the segment at p, or the step that loses it; the first segment has no f.
 #[inline(never)]
 fn segment_at<const K: usize, const C: usize>(
-    strand: &Strand,
+    received: impl Received,
     p: usize,
     f: Option<u8>,
     last: bool,
     next: impl Next,
 ) -> Result<Segment<C>, u32> {
+    let strand: &Strand = &received;
     let spare;
     let w = match strand.window(p) {
         Some(w) => w,
@@ -1056,7 +1150,7 @@ fn segment_at<const K: usize, const C: usize>(
     } else if agrees {
         (own as isize + j.unwrap_or(0)) as usize
     } else {
-        match end_by_next(strand, own, f_next, &next) {
+        match end_by_next(received, own, f_next, &next) {
             Some(end) => end,
             None => return Err(8),
         }
@@ -1148,7 +1242,7 @@ fn packed(x: u64) -> u16 {
 fn mark(verdict: Verdict) -> u8 {
     match verdict {
         Verdict::Read(Edit::None) => 0,
-        Verdict::Read(_) => 1,
+        Verdict::Read(_) | Verdict::Unknown => 1,
         Verdict::Lost { .. } | Verdict::NoStart => 2,
     }
 }
@@ -1183,7 +1277,7 @@ impl Sheet {
 #[inline(never)]
 fn read_equal<const K: usize, const C: usize>(
     l: usize,
-    strand: &Strand,
+    strand: impl Received,
     message: &mut [u8],
 ) -> Sheet {
     let mut packer = Packer::new(message);
@@ -1195,19 +1289,19 @@ fn read_equal<const K: usize, const C: usize>(
         i += 1;
         let last = i == l;
         let clean = match f {
-            None => clean_segment_at::<K, C>(strand, p, None, last),
-            Some(f) => clean_segment_at::<K, C>(strand, p, Some(f), last),
+            None => clean_segment_at::<K, C>(&strand, p, None, last),
+            Some(f) => clean_segment_at::<K, C>(&strand, p, Some(f), last),
         };
         if let Some(segment) = clean {
             packer.put::<K, C>(&segment.message, whole);
-            sheet.add(Verdict::Read(segment.edit));
+            sheet.add(strand.verdict(p, &segment));
             (p, f) = (segment.end, Some(segment.f));
             continue;
         }
         match segment_at::<K, C>(strand, p, f, last, Same::<K, C>) {
             Ok(segment) => {
                 packer.put::<K, C>(&segment.message, whole);
-                sheet.add(Verdict::Read(segment.edit));
+                sheet.add(strand.verdict(p, &segment));
                 (p, f) = (segment.end, Some(segment.f));
             }
             Err(step) => {
@@ -1243,13 +1337,13 @@ struct Walk<'a> {
 /// Reads one segment, the last where there is no next one; hands back whether another has a start.
 #[inline(never)]
 fn walk_on<const K: usize, const C: usize>(
-    strand: &Strand,
+    strand: impl Received,
     next: Option<&u16>,
     walk: &mut Walk,
 ) -> bool {
     let (p, f) = (walk.p, walk.f);
     let whole = K % 4 == 0 && walk.packer.count == 0;
-    let read = match clean_segment_at::<K, C>(strand, p, f, next.is_none()) {
+    let read = match clean_segment_at::<K, C>(&strand, p, f, next.is_none()) {
         Some(segment) => Ok(segment),
         None => {
             let other = Other(next.copied().unwrap_or(0));
@@ -1259,7 +1353,7 @@ fn walk_on<const K: usize, const C: usize>(
     match read {
         Ok(segment) => {
             walk.packer.put::<K, C>(&segment.message, whole);
-            walk.sheet.add(Verdict::Read(segment.edit));
+            walk.sheet.add(strand.verdict(p, &segment));
             (walk.p, walk.f) = (segment.end, Some(segment.f));
             true
         }
@@ -1287,7 +1381,7 @@ fn no_start<const K: usize, const C: usize>(walk: &mut Walk) {
 
 /// Reads segments that have lengths of their own.
 #[inline(never)]
-fn read_mixed(lengths: &[u16], strand: &Strand, message: &mut [u8]) -> Sheet {
+fn read_mixed(lengths: &[u16], strand: impl Received, message: &mut [u8]) -> Sheet {
     let mut walk = Walk {
         packer: Packer::new(message),
         sheet: Sheet::new(),
@@ -1305,6 +1399,39 @@ fn read_mixed(lengths: &[u16], strand: &Strand, message: &mut [u8]) -> Sheet {
         by_k!(k, no_start(&mut walk), ());
     }
     walk.sheet
+}
+
+/// Reads the segments; their length is given where all are equal.
+#[inline(always)]
+fn read_segments(
+    lengths: &[u16],
+    equal: Option<u16>,
+    strand: impl Received,
+    message: &mut [u8],
+) -> Result<Sheet, Refused> {
+    let l = lengths.len();
+    Ok(match equal {
+        Some(k) => by_k!(k, read_equal(l, strand, message), return refuse(1)),
+        None => read_mixed(lengths, strand, message),
+    })
+}
+
+/// Test 6, and the segments, for a strand with letters other than A, T, C and G.
+#[inline(never)]
+fn read_with_unknown(
+    lengths: &[u16],
+    equal: Option<u16>,
+    letters: &[u8],
+    strand: &mut Strand,
+    message: &mut [u8],
+) -> Result<Sheet, Refused> {
+    let no_foreign = letters.iter().fold(true, |all, &x| all & is_letter(x));
+    if !no_foreign {
+        return Err(first_foreign(letters));
+    }
+    let places = &strand.unknown_as_a(letters);
+    let strand = WithUnknown { strand, places };
+    read_segments(lengths, equal, strand, message)
 }
 
 /// Reads a strand; hands back the counts of clean, corrected and lost segments.
@@ -1330,10 +1457,10 @@ pub fn read(
         symbols: [PAST; 2048],
         length: letters.len(),
     };
-    strand.fill(letters)?;
-    let read = match equal {
-        Some(k) => by_k!(k, read_equal(l, &strand, message), return refuse(1)),
-        None => read_mixed(lengths, &strand, message),
+    let read = if strand.fill(letters) {
+        read_segments(lengths, equal, &strand, message)?
+    } else {
+        read_with_unknown(lengths, equal, letters, &mut strand, message)?
     };
     let mut marks = read.marks << (128 - 2 * l);
     for byte in sheet {

@@ -56,6 +56,7 @@ pub struct Tallied {
 }
 
 extern "C" {
+    pub fn dnalm_letter(byte: u8) -> u8;
     pub fn dnalm_write(
         lengths: *const u16,
         lengths_count: usize,
@@ -93,6 +94,10 @@ extern "C" {
     ) -> Written;
     pub fn dnalm_read_label(bytes: *const u8, bytes_length: usize) -> Order;
     pub fn dnalm_add_to_tally(t: Tally, clean: u32, corrected: u32, lost: u32) -> Tallied;
+}
+
+pub fn letter(byte: u8) -> u8 {
+    unsafe { dnalm_letter(byte) }
 }
 
 pub fn write(lengths: &[u16], b: u32, message: &[u8], out: &mut [u8]) -> Written {

@@ -1,12 +1,13 @@
 //! Compares the library, called by its C names, with the oracle.
 
+mod conditions;
 #[allow(dead_code)]
 mod ffi;
 mod oracle;
 mod strands;
 
 use ffi::{Counts, Order, Piece, Tallied, Tally, Written};
-use oracle::{Edit, Refused, Segment, Verdict};
+use oracle::{Edit, Letter, Refused, Segment, Verdict};
 use std::fmt::Debug;
 use std::process::exit;
 use std::sync::atomic::{AtomicU64, Ordering};
@@ -139,9 +140,12 @@ fn turns() -> Vec<Kind> {
     let mut turns = kinds();
     turns.extend([
         Kind::OneEdit,
+        Kind::OneEdit,
+        Kind::Foreign,
         Kind::Damaged(Damage::Crowded),
         Kind::Damaged(Damage::Crowded),
         Kind::Damaged(Damage::Islands),
+        Kind::Damaged(Damage::UnknownBehind),
         Kind::ManyFaults,
     ]);
     turns
@@ -169,10 +173,22 @@ impl Met {
             names.push(format!("{call} refused"));
         }
         let verdicts = [
-            "clean", "sub", "del", "ins", "step 3", "step 6", "step 7", "step 8", "step 9",
-            "no start", "scanned",
+            "clean", "unknown", "sub", "del", "ins", "step 3", "step 6", "step 7", "step 8",
+            "step 9", "no start", "scanned",
         ];
         names.extend(verdicts.map(String::from));
+        let letters = [
+            "strand without N",
+            "strand with N",
+            "N told by sub",
+            "N told by ins",
+            "scanned behind N",
+            "lost by N",
+            "one-edit strand",
+            "touched by N alone",
+            "foreign behind N",
+        ];
+        names.extend(letters.map(String::from));
         let layouts = [
             "equal lengths",
             "mixed lengths",
@@ -328,6 +344,9 @@ impl Run {
         let mut wanted_sheet = sheet.content().to_vec();
         let answer = oracle::read(lengths, b, letters, &mut wanted_message, &mut wanted_sheet);
         self.count("read", &answer);
+        if answer.is_err_and(|refused| letters[..refused.place].contains(&b'N')) {
+            self.met.add("foreign behind N");
+        }
         let wanted = match answer {
             Ok([clean, corrected, lost]) => Counts {
                 refusal: 0,
@@ -503,6 +522,7 @@ impl Run {
         for segment in oracle::segments(lengths, b, letters).unwrap_or_default() {
             let name = match segment.verdict {
                 Verdict::Read(Edit::None) => "clean",
+                Verdict::Unknown => "unknown",
                 Verdict::Read(Edit::Sub { .. }) => "sub",
                 Verdict::Read(Edit::Del { .. }) => "del",
                 Verdict::Read(Edit::Ins { .. }) => "ins",
@@ -514,9 +534,37 @@ impl Run {
                 Verdict::NoStart => "no start",
             };
             self.met.add(name);
+            match segment.verdict {
+                Verdict::Read(Edit::Sub { letter: b'N', .. }) => self.met.add("N told by sub"),
+                Verdict::Read(Edit::Ins { letter: b'N', .. }) => self.met.add("N told by ins"),
+                _ => {}
+            }
             if segment.scanned {
                 self.met.add("scanned");
+                if letters[segment.start - 1] == b'N' {
+                    self.met.add("scanned behind N");
+                }
             }
+        }
+    }
+
+    /// Counts what unknown letters do to a strand: the same with A in their place tells it.
+    fn count_unknown(&mut self, lengths: &[u16], strand: &[u8], letters: &[u8], lost: u32) {
+        if !letters.contains(&b'N') {
+            self.met.add("strand without N");
+            return;
+        }
+        self.met.add("strand with N");
+        let decided = decided(letters);
+        let b = strands::sum(lengths) / 4;
+        let segments = oracle::segments(lengths, b, &decided).unwrap_or_default();
+        let lost_decided = segments.iter().filter(|x| oracle::mark(x.verdict) == 2);
+        if lost as usize > lost_decided.count() {
+            self.met.add("lost by N");
+        }
+        let kept = |letters: &[u8]| conditions::kept(lengths, strand, letters);
+        if kept(&decided) && !kept(letters) {
+            self.met.add("touched by N alone");
         }
     }
 
@@ -716,8 +764,10 @@ impl Run {
         let rooms = (bytes + more.0, sheet + more.1);
         let (got, read, marks) = self.check_read(&lengths, b, &letters, rest, rooms);
         self.count_verdicts(&lengths, b, &letters);
-        let conditions = [Kind::Untouched, Kind::OneEdit, Kind::ShortBuffers];
-        if conditions.contains(&self.kind) {
+        if got.refusal == 0 {
+            self.count_unknown(&lengths, &strand, &letters, got.lost);
+        }
+        if taken && self.keeps_conditions(&lengths, &strand, &letters) {
             self.demand(&lengths, &message, &letters, got, &read, &marks);
         }
         if taken {
@@ -755,6 +805,21 @@ impl Run {
         }
     }
 
+    /// Whether the one-edit conditions are kept; strands drawn by them keep them.
+    fn keeps_conditions(&mut self, lengths: &[u16], strand: &[u8], letters: &[u8]) -> bool {
+        let kept = conditions::kept(lengths, strand, letters);
+        let drawn = [Kind::Untouched, Kind::OneEdit, Kind::ShortBuffers].contains(&self.kind);
+        let (seed, case) = (self.seed, self.case);
+        assert!(
+            kept || !drawn,
+            "seed {seed} case {case} breaks the conditions"
+        );
+        if kept {
+            self.met.add("one-edit strand");
+        }
+        kept
+    }
+
     /// What demand 3 claims of a strand that keeps the one-edit conditions.
     fn demand(
         &self,
@@ -777,6 +842,12 @@ impl Run {
             );
         }
     }
+}
+
+/// The letters with A in the place of each unknown one.
+fn decided(letters: &[u8]) -> Vec<u8> {
+    let decide = |&letter: &u8| if letter == b'N' { b'A' } else { letter };
+    letters.iter().map(decide).collect()
 }
 
 /// Whether each segment is clean or corrected, by the counts and by the sheet.
@@ -857,21 +928,26 @@ struct Demand {
     lengths: Vec<u16>,
     message: Vec<u8>,
     segments: Vec<Vec<u8>>,
+    /// Strands read that keep the conditions.
     strands: u64,
+    /// Strands that an unknown letter alone puts outside the conditions.
+    outside: u64,
+    /// Those of them with a lost segment.
+    lost: u64,
 }
 
 impl Demand {
-    fn check(&mut self, letters: &[u8]) {
-        self.strands += 1;
+    /// Both readers agree and, where it is claimed, the message comes out whole; hands back the lost segments.
+    fn check(&self, letters: &[u8], claimed: bool) -> u32 {
         let (lengths, b) = (&self.lengths, self.message.len() as u32);
         let (got, message, sheet) = library_read(lengths, b, letters);
         let (mut steps_message, mut steps_sheet) = (vec![0; b as usize], vec![0; sheet.len()]);
         let steps = oracle::read(lengths, b, letters, &mut steps_message, &mut steps_sheet);
-        let fits = message == self.message
-            && none_lost(lengths, got, &sheet)
-            && steps == Ok([got.clean, got.corrected, got.lost])
+        let agreed = steps == Ok([got.clean, got.corrected, got.lost])
+            && message == steps_message
             && sheet == steps_sheet;
-        if !fits {
+        let whole = message == self.message && none_lost(lengths, got, &sheet);
+        if !agreed || claimed && !whole {
             println!(
                 "disagreement: demand 3 lengths {} letters {} message {} oracle {} {} {steps:?} \
                  library {} {} {got:?}",
@@ -885,12 +961,14 @@ impl Demand {
             );
             exit(1);
         }
+        got.lost
     }
 
     /// Every stretch of the next segment after those already received.
     fn segment(&mut self, number: usize, received: &[u8], spared: bool) {
         if number == self.segments.len() {
-            self.check(received);
+            self.check(received, true);
+            self.strands += 1;
             return;
         }
         let segment = self.segments[number].clone();
@@ -905,10 +983,36 @@ impl Demand {
             self.segment(number + 1, &[received, &stretch].concat(), hit);
         }
     }
+
+    /// Each edit in separator or syndrome of a segment, with each A of the next one unknown in turn, which touches it.
+    fn touched_next(&mut self) {
+        for next in 1..self.segments.len() {
+            let hit = next - 1;
+            for change in strands::tail_changes(&self.segments[hit], self.lengths[hit]) {
+                let mut segments = self.segments.clone();
+                segments[hit] = change.done(&segments[hit]);
+                for place in 0..segments[next].len() {
+                    if segments[next][place] == b'A' {
+                        segments[next][place] = b'N';
+                        self.touched(&segments.concat());
+                        segments[next][place] = b'A';
+                    }
+                }
+            }
+        }
+    }
+
+    /// Both readers agree on a strand that an unknown letter puts outside the conditions, if no other cut keeps them.
+    fn touched(&mut self, letters: &[u8]) {
+        let kept = conditions::kept(&self.lengths, &self.segments.concat(), letters);
+        let lost = self.check(letters, kept);
+        self.outside += u64::from(!kept);
+        self.lost += u64::from(lost > 0);
+    }
 }
 
-/// Every allowed edit of the strand of one message; hands back the number of strands.
-fn demand_of(lengths: &[u16], message: &[u8]) -> u64 {
+/// Every allowed edit of the strand of one message, and what an unknown letter touches.
+fn demand_of(lengths: &[u16], message: &[u8]) -> Demand {
     let b = message.len() as u32;
     let (written, strand) = library_write(lengths, b, message);
     let mut wanted = vec![0; 64];
@@ -929,16 +1033,19 @@ fn demand_of(lengths: &[u16], message: &[u8]) -> u64 {
         message: message.to_vec(),
         segments: strands::cut(lengths, &strand),
         strands: 0,
+        outside: 0,
+        lost: 0,
     };
     demand.segment(0, &[], false);
-    demand.strands
+    demand.touched_next();
+    demand
 }
 
 /// Every message of one byte, and some of two.
 fn demand3() {
     let bytes: Vec<Vec<u8>> = (0..=255).map(|byte| vec![byte]).collect();
     let pairs: Vec<Vec<u8>> = (0..=255u8)
-        .step_by(19)
+        .step_by(29)
         .map(|byte| vec![byte, byte.wrapping_mul(29).wrapping_add(7)])
         .collect();
     let layouts: [(&[u16], &[Vec<u8>]); 8] = [
@@ -952,9 +1059,17 @@ fn demand3() {
         (&[3, 2, 3], &pairs[5..6]),
     ];
     for (lengths, messages) in layouts {
-        let strands: u64 = messages.iter().map(|m| demand_of(lengths, m)).sum();
+        let (mut strands, mut outside, mut lost) = (0, 0, 0);
+        for demand in messages.iter().map(|message| demand_of(lengths, message)) {
+            strands += demand.strands;
+            outside += demand.outside;
+            lost += demand.lost;
+        }
         let (lengths, count) = (u16::shown(lengths), messages.len());
-        println!("demand 3: lengths {lengths}, {count} messages, {strands} strands hold");
+        println!(
+            "demand 3: lengths {lengths}, {count} messages, {strands} strands hold; \
+             {outside} outside by an unknown letter agree, {lost} of them with a segment lost"
+        );
     }
 }
 
@@ -1047,7 +1162,73 @@ fn samples() {
     sample("2,048", refusal(&[b'A'; 2048]), 0);
     sample("2,049", refusal(&[b'A'; 2049]), 4);
     sample_labels();
+    sample_letters();
+    sample_unknown();
     println!("samples hold");
+}
+
+/// What each byte is: the symbol, 4 for an unknown letter, 5 for a foreign one.
+fn sample_letters() {
+    let numbers = [
+        (b'A', 0),
+        (b'T', 1),
+        (b'C', 2),
+        (b'G', 3),
+        (b'N', 4),
+        (b'n', 5),
+        (b'U', 5),
+        (0, 5),
+        (255, 5),
+    ];
+    for (byte, number) in numbers {
+        sample(&format!("letter {byte}"), ffi::letter(byte), number);
+    }
+    for byte in 0..=255 {
+        let number = match oracle::letter(byte) {
+            Letter::Symbol(symbol) => symbol,
+            Letter::Unknown => 4,
+            Letter::Foreign => 5,
+        };
+        sample(&format!("letter {byte}"), ffi::letter(byte), number);
+    }
+}
+
+/// The strand ATTGGGTATTCGTAAAGC of 1B with unknown letters, worked out by hand: clean, corrected, lost, byte and sheet.
+fn sample_unknown() {
+    let read: [(&str, [u32; 3], u8, u8); 12] = [
+        // In the place of A: message, syndrome, separator, and all of them.
+        ("NTTGGGTATTCGTAAAGC", [1, 1, 0], 0x1B, 0x40),
+        ("ATTGGGTNTTCGTAAAGC", [1, 1, 0], 0x1B, 0x40),
+        ("ATTGGGTATTCGTNAAGC", [1, 1, 0], 0x1B, 0x10),
+        ("NTTGGGTNTTCGTNNNGC", [0, 2, 0], 0x1B, 0x50),
+        // In the place of another letter, and one more.
+        ("ATTGGGTATTCNTAAAGC", [1, 1, 0], 0x1B, 0x10),
+        ("ATTGGGTANTCGTAAAGC", [1, 1, 0], 0x1B, 0x10),
+        ("ATTNGGGTATTCGTAAAGC", [1, 1, 0], 0x1B, 0x40),
+        // In the syndrome: the next segment settles the end if it has no unknown letter.
+        ("ATTGGGNATTCGTAAAGC", [1, 1, 0], 0x1B, 0x40),
+        ("ATTGGGNATTCGTNAAGC", [0, 0, 2], 0x00, 0xA0),
+        ("ATTGGGTCTTCGTNAAGC", [0, 0, 2], 0x00, 0xA0),
+        // Before a segment found by a scan, and in it.
+        ("GCGCGCGNTTCGTAAAGC", [1, 0, 1], 0x0B, 0x80),
+        ("GCGCGCGATTCGTAANGC", [0, 0, 2], 0x00, 0xA0),
+    ];
+    for (letters, counts, byte, sheet) in read {
+        let (got, message, marks) = library_read(&[2, 2], 1, letters.as_bytes());
+        let got = (got.refusal, [got.clean, got.corrected, got.lost]);
+        sample(letters, got, (0, counts));
+        sample(letters, (message, marks), (vec![byte], vec![sheet]));
+    }
+    let refused = [
+        ("NTTXGGTATTCGTAAAGC", 3),
+        ("Nn", 1),
+        ("nN", 0),
+        ("NA\0N", 2),
+    ];
+    for (letters, place) in refused {
+        let got = library_read(&[2, 2], 1, letters.as_bytes()).0;
+        sample(letters, (got.refusal, got.place), (6, place));
+    }
 }
 
 /// A label by the library, with the byte behind it.

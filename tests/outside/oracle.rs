@@ -7,19 +7,29 @@ pub struct Refused {
     pub place: usize,
 }
 
+/// What a byte of a strand is.
+#[derive(Clone, Copy, Debug, PartialEq, Eq)]
+pub enum Letter {
+    Symbol(u8),
+    Unknown,
+    Foreign,
+}
+
 /// What was done to a segment on the way; places are those of the written segment.
+/// The letter is the received one, of a deletion the written one.
 #[derive(Clone, Copy, Debug, PartialEq, Eq)]
 pub enum Edit {
     None,
-    Sub { place: usize, symbol: u8 },
-    Del { place: usize, symbol: u8 },
-    Ins { place: usize, symbol: u8 },
+    Sub { place: usize, letter: u8 },
+    Del { place: usize, letter: u8 },
+    Ins { place: usize, letter: u8 },
 }
 
-/// The reader's verdict on one segment.
+/// The reader's verdict on one segment; unknown is a piece with unknown letters that equals its segment, these taken as A.
 #[derive(Clone, Copy, Debug, PartialEq, Eq)]
 pub enum Verdict {
     Read(Edit),
+    Unknown,
     Lost { step: u32 },
     NoStart,
 }
@@ -112,8 +122,19 @@ pub fn letter_of(symbol: u8) -> u8 {
     b"ATCG"[symbol as usize]
 }
 
-fn symbol_of(letter: u8) -> Option<u8> {
-    b"ATCG".iter().position(|&x| x == letter).map(|x| x as u8)
+pub fn letter(byte: u8) -> Letter {
+    match byte {
+        b'A' => Letter::Symbol(0),
+        b'T' => Letter::Symbol(1),
+        b'C' => Letter::Symbol(2),
+        b'G' => Letter::Symbol(3),
+        b'N' => Letter::Unknown,
+        _ => Letter::Foreign,
+    }
+}
+
+fn any_unknown(letters: &[u8]) -> bool {
+    letters.iter().any(|&x| letter(x) == Letter::Unknown)
 }
 
 /// Four symbols of each byte, highest two bits first.
@@ -212,12 +233,13 @@ pub fn write(lengths: &[u16], b: u32, message: &[u8], out: &mut [u8]) -> Result<
     Ok(strand.len())
 }
 
-/// A received strand in symbols; places past its end match nothing.
-struct Strand {
+/// A received strand, its letters and the symbols read from them; places past its end match nothing.
+struct Strand<'a> {
+    letters: &'a [u8],
     symbols: Vec<u8>,
 }
 
-impl Strand {
+impl Strand<'_> {
     fn len(&self) -> usize {
         self.symbols.len()
     }
@@ -238,10 +260,13 @@ impl Strand {
         self.take(p, wanted.len()) == Some(wanted)
     }
 
-    /// Whether a clean segment of this shape, with a marker, starts at p.
+    /// Whether a clean segment of this shape, with a marker and no unknown letter, starts at p.
     fn clean_at(&self, shape: &Shape, p: usize, f: u8) -> bool {
         match self.take(p + 2, shape.k) {
-            Some(message) => self.stands(p, &written(message, Some(f), shape.t)),
+            Some(message) => {
+                self.stands(p, &written(message, Some(f), shape.t))
+                    && !any_unknown(&self.letters[p..p + shape.n])
+            }
             None => false,
         }
     }
@@ -389,8 +414,8 @@ fn end_of(
     None
 }
 
-/// Step 9: the edit that leads from the written segment to the piece.
-fn edit_between(written: &[u8], piece: &[u8]) -> Option<Edit> {
+/// Step 9: the edit that leads from the written segment to the symbols of a piece with these letters.
+fn edit_between(written: &[u8], piece: &[u8], letters: &[u8]) -> Option<Edit> {
     if written == piece {
         return Some(Edit::None);
     }
@@ -400,27 +425,27 @@ fn edit_between(written: &[u8], piece: &[u8]) -> Option<Edit> {
             let mut edited = written.to_vec();
             edited[place] = piece[place];
             if edited == piece {
-                let symbol = piece[place];
-                return Some(Edit::Sub { place, symbol });
+                let letter = letters[place];
+                return Some(Edit::Sub { place, letter });
             }
         }
     }
     if piece.len() + 1 == n {
         for place in 0..n {
             let mut edited = written.to_vec();
-            let symbol = edited.remove(place);
+            let letter = letter_of(edited.remove(place));
             if edited == piece {
-                return Some(Edit::Del { place, symbol });
+                return Some(Edit::Del { place, letter });
             }
         }
     }
     if piece.len() == n + 1 {
         for place in 0..=n {
             let mut edited = written.to_vec();
-            let symbol = piece[place];
-            edited.insert(place, symbol);
+            edited.insert(place, piece[place]);
             if edited == piece {
-                return Some(Edit::Ins { place, symbol });
+                let letter = letters[place];
+                return Some(Edit::Ins { place, letter });
             }
         }
     }
@@ -434,15 +459,20 @@ fn segment_at(
     strand: &Strand,
     p: usize,
     f: Option<u8>,
-) -> Result<(Vec<u8>, usize, Edit), u32> {
+) -> Result<(Vec<u8>, usize, Verdict), u32> {
     let (message, separator) = message_at(shape, strand, p, f.is_none())?;
     let end = match next {
         Some(next) => end_of(shape, next, strand, p, &message, separator).ok_or(8u32)?,
         None => strand.len(),
     };
-    let piece = &strand.symbols[p..end];
-    let edit = edit_between(&written(&message, f, shape.t), piece).ok_or(9u32)?;
-    Ok((message, end, edit))
+    let letters = &strand.letters[p..end];
+    let anew = written(&message, f, shape.t);
+    let verdict = match edit_between(&anew, &strand.symbols[p..end], letters) {
+        Some(Edit::None) if any_unknown(letters) => Verdict::Unknown,
+        Some(edit) => Verdict::Read(edit),
+        None => return Err(9),
+    };
+    Ok((message, end, verdict))
 }
 
 /// Step 10: the start of the next clean segment, sought about the end of the lost one.
@@ -472,13 +502,13 @@ fn all_segments(lay: &Layout, strand: &Strand) -> Vec<Segment> {
     while let Some(shape) = lay.shapes.get(segments.len()) {
         let next = lay.shapes.get(segments.len() + 1);
         match segment_at(shape, next, strand, p, f) {
-            Ok((message, end, edit)) => {
+            Ok((message, end, verdict)) => {
                 f = syndrome(&message, shape.t).pop();
                 segments.push(Segment {
                     start: p,
                     end,
                     scanned,
-                    verdict: Verdict::Read(edit),
+                    verdict,
                     message,
                 });
                 p = end;
@@ -514,16 +544,17 @@ fn all_segments(lay: &Layout, strand: &Strand) -> Vec<Segment> {
     segments
 }
 
-/// Test 6.
-fn strand_of(letters: &[u8]) -> Result<Strand, Refused> {
+/// Test 6; an unknown letter is read as A.
+fn strand_of(letters: &[u8]) -> Result<Strand<'_>, Refused> {
     let mut symbols = Vec::new();
-    for (place, &letter) in letters.iter().enumerate() {
-        match symbol_of(letter) {
-            Some(symbol) => symbols.push(symbol),
-            None => return Err(Refused { number: 6, place }),
+    for (place, &byte) in letters.iter().enumerate() {
+        match letter(byte) {
+            Letter::Symbol(symbol) => symbols.push(symbol),
+            Letter::Unknown => symbols.push(0),
+            Letter::Foreign => return Err(Refused { number: 6, place }),
         }
     }
-    Ok(Strand { symbols })
+    Ok(Strand { letters, symbols })
 }
 
 /// Test 4.
@@ -546,7 +577,7 @@ pub fn segments(lengths: &[u16], b: u32, letters: &[u8]) -> Result<Vec<Segment>,
 pub fn mark(verdict: Verdict) -> u8 {
     match verdict {
         Verdict::Read(Edit::None) => 0,
-        Verdict::Read(_) => 1,
+        Verdict::Read(_) | Verdict::Unknown => 1,
         Verdict::Lost { .. } | Verdict::NoStart => 2,
     }
 }

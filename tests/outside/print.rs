@@ -12,14 +12,13 @@ use std::os::unix::ffi::OsStringExt;
 use std::process::exit;
 
 fn verdict_text(verdict: Verdict) -> String {
-    let named = |name: &str, place: usize, symbol: u8| {
-        format!("{name} {place} {}", oracle::letter_of(symbol) as char)
-    };
+    let named = |name: &str, place: usize, letter: u8| format!("{name} {place} {}", letter as char);
     match verdict {
         Verdict::Read(Edit::None) => String::from("clean"),
-        Verdict::Read(Edit::Sub { place, symbol }) => named("sub", place, symbol),
-        Verdict::Read(Edit::Del { place, symbol }) => named("del", place, symbol),
-        Verdict::Read(Edit::Ins { place, symbol }) => named("ins", place, symbol),
+        Verdict::Unknown => String::from("unknown"),
+        Verdict::Read(Edit::Sub { place, letter }) => named("sub", place, letter),
+        Verdict::Read(Edit::Del { place, letter }) => named("del", place, letter),
+        Verdict::Read(Edit::Ins { place, letter }) => named("ins", place, letter),
         Verdict::Lost { step } => format!("lost step {step}"),
         Verdict::NoStart => String::from("lost start"),
     }

@@ -1,19 +1,30 @@
 //! Random layouts, messages and strands, repeatable by their seed.
 
+/// The letters that a received strand may have.
+pub const LETTERS: &[u8] = b"ATCGN";
+
+/// The unknown letter.
+const UNKNOWN: u8 = b'N';
+
+/// What the letters of one strand's damage are drawn from, often without the unknown one.
+const DRAWN: [&[u8]; 5] = [b"ATCG", b"ATCG", LETTERS, b"ATCGNNNN", b"ATCGNNNN"];
+
 /// SplitMix64.
 #[derive(Clone)]
 pub struct Rng {
     state: u64,
+    drawn: &'static [u8],
 }
 
 impl Rng {
     /// A sequence of its own for each seed and number.
     pub fn new(seed: u64, number: u64) -> Rng {
-        let mut rng = Rng { state: seed };
-        let start = rng.next();
-        Rng {
-            state: start ^ number.wrapping_mul(0xD6E8_FEB8_6659_FD93),
-        }
+        let drawn = DRAWN[0];
+        let start = Rng { state: seed, drawn }.next();
+        let state = start ^ number.wrapping_mul(0xD6E8_FEB8_6659_FD93);
+        let mut rng = Rng { state, drawn };
+        rng.drawn = rng.of(&DRAWN);
+        rng
     }
 
     pub fn next(&mut self) -> u64 {
@@ -39,7 +50,11 @@ impl Rng {
     }
 
     pub fn letter(&mut self) -> u8 {
-        self.of(b"ATCG")
+        self.of(self.drawn)
+    }
+
+    fn draws_unknown(&self) -> bool {
+        self.drawn.contains(&UNKNOWN)
     }
 
     pub fn letters(&mut self, count: usize) -> Vec<u8> {
@@ -298,17 +313,24 @@ pub fn changes(segment: &[u8]) -> Vec<Change> {
     let mut all = Vec::new();
     for (place, &written) in segment.iter().enumerate() {
         all.push(Change::LeaveOut(place));
-        for &letter in b"ATCG" {
+        for &letter in LETTERS {
             if letter != written {
                 all.push(Change::Replace(place, letter));
             }
         }
     }
     for place in 0..=segment.len() {
-        for &letter in b"ATCG" {
+        for &letter in LETTERS {
             all.push(Change::PutIn(place, letter));
         }
     }
+    all
+}
+
+/// Every edit in separator or syndrome of a segment of this length.
+pub fn tail_changes(segment: &[u8], length: u16) -> Vec<Change> {
+    let mut all = changes(segment);
+    all.retain(|change| change.hits_tail(segment.len(), syndrome_length(length)));
     all
 }
 
@@ -376,9 +398,15 @@ pub enum Damage {
     OneBad,
     /// Whole segments, their markers made to fit, among other letters.
     Islands,
+    /// Some or all of the letters A unknown.
+    Undecided,
+    /// One segment badly hit and its last letter unknown, before whole ones.
+    UnknownBefore,
+    /// A segment hit in separator or syndrome, and an unknown letter in the next one.
+    UnknownBehind,
 }
 
-pub const DAMAGES: [Damage; 12] = [
+pub const DAMAGES: [Damage; 15] = [
     Damage::Crowded,
     Damage::Many,
     Damage::CutOut,
@@ -391,10 +419,14 @@ pub const DAMAGES: [Damage; 12] = [
     Damage::Long,
     Damage::OneBad,
     Damage::Islands,
+    Damage::Undecided,
+    Damage::UnknownBefore,
+    Damage::UnknownBehind,
 ];
 
-/// The marker letter after a letter and before a message.
+/// The marker letter after a letter, an unknown one taken as A, and before a message.
 fn marker(before: u8, first: u8, second: u8) -> u8 {
+    let before = if before == UNKNOWN { b'A' } else { before };
     let mut choices = b"ATCG".iter().cycle().skip_while(|&&x| x != before);
     let [_, next, second_next, third_next] = [0; 4].map(|_| *choices.next().unwrap_or(&b'A'));
     let fits = |x: u8| x != first && x != second;
@@ -427,10 +459,88 @@ fn runs(rng: &mut Rng, count: usize) -> Vec<u8> {
     letters
 }
 
+/// Puts a segment behind the letters received, its marker made to fit the last of them.
+fn island(received: &mut Vec<u8>, segment: &[u8]) {
+    let mut island = segment.to_vec();
+    if let Some(&before) = received.last() {
+        island[..2].fill(marker(before, segment[2], segment[3]));
+    }
+    received.extend(island);
+}
+
+/// Letters in the place of a segment, at most 9 more or less.
+fn bad_stretch(rng: &mut Rng, segment: &[u8]) -> Vec<u8> {
+    let count = segment.len() + rng.below(19);
+    rng.letters(count.saturating_sub(9))
+}
+
+fn end_unknown(letters: &mut [u8]) {
+    if let Some(last) = letters.last_mut() {
+        *last = UNKNOWN;
+    }
+}
+
+/// Makes at most so many of the letters A unknown; where there is none, a letter anywhere.
+fn undecided(rng: &mut Rng, letters: &mut [u8], most: usize) {
+    let mut places: Vec<usize> = (0..letters.len()).collect();
+    places.retain(|&place| letters[place] == b'A');
+    if places.is_empty() && !letters.is_empty() {
+        places.push(rng.below(letters.len()));
+    }
+    rng.shuffle(&mut places);
+    for &place in places.iter().take(most) {
+        letters[place] = UNKNOWN;
+    }
+}
+
+/// Puts unknown letters into a strand that is drawn with them: a few anywhere, in the places of A, or a run.
+fn unknown(rng: &mut Rng, letters: &mut [u8]) {
+    if letters.is_empty() || !rng.draws_unknown() {
+        return;
+    }
+    let from = rng.below(letters.len());
+    match rng.below(6) {
+        0 => letters[from] = UNKNOWN,
+        1 => {
+            for _ in 0..=rng.below(4) {
+                let place = rng.below(letters.len());
+                letters[place] = UNKNOWN;
+            }
+        }
+        2 => {
+            let most = rng.of(&[1, 1, 2, 5]);
+            undecided(rng, letters, most);
+        }
+        3 => {
+            let most = rng.of(&[2, 4, 20, 2048]).min(letters.len() - from);
+            let count = rng.below(most + 1);
+            letters[from..from + count].fill(UNKNOWN);
+        }
+        _ => {}
+    }
+}
+
+/// A segment hit in its last t+3 letters, and in the next one a letter made unknown or an unknown one put in.
+fn unknown_behind(rng: &mut Rng, lengths: &[u16], segments: &mut [Vec<u8>]) {
+    if segments.len() < 2 {
+        return;
+    }
+    let hit = rng.below(segments.len() - 1);
+    let changes = tail_changes(&segments[hit], lengths[hit]);
+    segments[hit] = rng.of(&changes).done(&segments[hit]);
+    let next = &mut segments[hit + 1];
+    let place = rng.below(next.len());
+    match rng.below(6) {
+        0 => next[place] = UNKNOWN,
+        1 => next.insert(place, UNKNOWN),
+        _ => undecided(rng, next, 1),
+    }
+}
+
 /// A badly damaged strand of at most 2,048 letters.
 pub fn damaged(rng: &mut Rng, damage: Damage, lengths: &[u16], strand: &[u8]) -> Vec<u8> {
     let mut received = strand.to_vec();
-    let segments = cut(lengths, strand);
+    let mut segments = cut(lengths, strand);
     match damage {
         Damage::Crowded => {
             received.clear();
@@ -503,17 +613,9 @@ pub fn damaged(rng: &mut Rng, damage: Damage, lengths: &[u16], strand: &[u8]) ->
             }
         }
         Damage::OneBad => {
-            received.clear();
             let bad = rng.below(segments.len());
-            for (i, segment) in segments.iter().enumerate() {
-                if i == bad {
-                    let moved = rng.below(19) as isize - 9;
-                    let count = (segment.len() as isize + moved).max(0) as usize;
-                    received.extend(rng.letters(count));
-                } else {
-                    received.extend(segment);
-                }
-            }
+            segments[bad] = bad_stretch(rng, &segments[bad]);
+            received = segments.concat();
         }
         Damage::Islands => {
             received.clear();
@@ -525,15 +627,32 @@ pub fn damaged(rng: &mut Rng, damage: Damage, lengths: &[u16], strand: &[u8]) ->
                 let count = rng.below(most);
                 let between = rng.letters(count);
                 received.extend(between);
-                let mut island = segment.clone();
-                if let Some(&before) = received.last() {
-                    island[..2].fill(marker(before, segment[2], segment[3]));
+                if rng.draws_unknown() && rng.once_in(2) {
+                    end_unknown(&mut received);
                 }
-                received.extend(island);
+                island(&mut received, segment);
             }
+        }
+        Damage::Undecided => {
+            let most = rng.of(&[1, 2, 9, 2048]);
+            undecided(rng, &mut received, most);
+        }
+        Damage::UnknownBefore => {
+            let bad = rng.below(segments.len().max(2) - 1);
+            received = segments[..bad].concat();
+            received.extend(bad_stretch(rng, &segments[bad]));
+            end_unknown(&mut received);
+            for segment in &segments[bad + 1..] {
+                island(&mut received, segment);
+            }
+        }
+        Damage::UnknownBehind => {
+            unknown_behind(rng, lengths, &mut segments);
+            received = segments.concat();
         }
     }
     received.truncate(2048);
+    unknown(rng, &mut received);
     received
 }
 
@@ -547,23 +666,26 @@ pub fn overlong(rng: &mut Rng) -> Vec<u8> {
 pub fn foreign_byte(rng: &mut Rng) -> u8 {
     loop {
         let byte = if rng.once_in(2) {
-            rng.of(b"atcgBDEFHSUVN \n\r\0\xC1\xD4\xC3\xC7@")
+            rng.of(b"atcgnBDEFHMOSUVX \n\r\0\xC1\xD4\xC3\xC7\xCE@\xFF")
         } else {
             rng.next() as u8
         };
-        if !b"ATCG".contains(&byte) {
+        if !LETTERS.contains(&byte) {
             return byte;
         }
     }
 }
 
-/// Puts foreign letters at random places of a strand that is not empty.
+/// Puts foreign letters at random places of a strand that is not empty, often with an unknown one before.
 pub fn foreign(rng: &mut Rng, strand: &mut [u8]) {
     let last = strand.len() - 1;
     for _ in 0..=rng.below(3) {
         let random = rng.below(strand.len());
         let place = rng.of(&[0, last, random, random, random]);
         strand[place] = foreign_byte(rng);
+        if place > 0 && !rng.once_in(6) {
+            strand[rng.below(place)] = UNKNOWN;
+        }
     }
 }
 

@@ -158,14 +158,13 @@ fn refusal_text(number: u32, place: usize) -> String {
 }
 
 fn verdict_text(verdict: Verdict) -> String {
-    let named = |name: &str, place: usize, symbol: u8| {
-        format!("{name}_{place}_{}", oracle::letter_of(symbol) as char)
-    };
+    let named = |name: &str, place: usize, letter: u8| format!("{name}_{place}_{}", letter as char);
     match verdict {
         Verdict::Read(Edit::None) => String::from("clean"),
-        Verdict::Read(Edit::Sub { place, symbol }) => named("sub", place, symbol),
-        Verdict::Read(Edit::Del { place, symbol }) => named("del", place, symbol),
-        Verdict::Read(Edit::Ins { place, symbol }) => named("ins", place, symbol),
+        Verdict::Unknown => String::from("unknown"),
+        Verdict::Read(Edit::Sub { place, letter }) => named("sub", place, letter),
+        Verdict::Read(Edit::Del { place, letter }) => named("del", place, letter),
+        Verdict::Read(Edit::Ins { place, letter }) => named("ins", place, letter),
         Verdict::Lost { step } => format!("lost_{step}"),
         Verdict::NoStart => String::from("lost_start"),
     }

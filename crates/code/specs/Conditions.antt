@@ -10,6 +10,7 @@ use mathlib.Core.List.{List, [], _∷_, _++_}
 use Prim.Native.Nat.{ℕ, _+_}
 use lib.Dec.{leb}
 use lib.ListN.{length}
+use Rattle.code.specs.Symbols.{letterKinds}
 use Rattle.code.specs.Segment.{segment, lastOf, dataAt}
 use Rattle.code.specs.Edits.{applied, Fits}
 use Rattle.code.specs.declared.Edit.{Edit}
@@ -32,21 +33,21 @@ hits marked k (Sub i x) = leb (separatorPlace marked k) i
 hits marked k (Del i x) = leb (separatorPlace marked k) i
 hits marked k (Ins i x) = leb (separatorPlace marked k) i
 
--- the segments that follow are none, or the first of them is untouched: its stretch equals it
+-- the segments that follow are none, or the first of them is untouched: its stretch equals it, letter by letter
 abbrev pub NextUntouched : ℕ → List (List ℕ) → List Edit → Type 0
 NextUntouched f [] es = Unit {0}
 NextUntouched f (m ∷ ms) [] = ⊥
 NextUntouched f (m ∷ ms) (e ∷ es) = applied e (segment true f m) ≡ segment true f m
 
--- an edit for each segment, and each segment that is hit in separator or syndrome is last or directly followed by an untouched one
+-- an edit for each segment, whose letter may be an N, and each segment that is hit in separator or syndrome is last or directly followed by an untouched one
 abbrev pub Allowed : Bool → ℕ → List (List ℕ) → List Edit → Type 0
 Allowed marked f [] [] = Unit {0}
 Allowed marked f [] (e ∷ es) = ⊥
 Allowed marked f (m ∷ ms) [] = ⊥
 Allowed marked f (m ∷ ms) (e ∷ es) =
-    Fits e (length (segment marked f m)) × (hits marked (length m) e ≡ true → NextUntouched (lastOf m) ms es) × Allowed true (lastOf m) ms es
+    Fits letterKinds e (length (segment marked f m)) × (hits marked (length m) e ≡ true → NextUntouched (lastOf m) ms es) × Allowed true (lastOf m) ms es
 
--- the strand s comes from the written strand of the messages within the conditions
+-- the letters s come from the written strand of the messages within the conditions
 pub record OneEdit (ms : List (List ℕ)) (s : List ℕ) : Type 0 where
   pub edits : List Edit
   pub allowed : Allowed false 0 ms edits

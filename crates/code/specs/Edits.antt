@@ -1,6 +1,6 @@
 -- Edits of one segment.
 --   applied   a list under an edit
---   Fits      the edit's place is one of the list's, and its symbol is one
+--   Fits      the edit's place is one of the list's, and its letter is one
 --   same      two lists are equal, as a test
 --   judged    the edit that turns a written segment into a piece, the smallest place first
 use mathlib.Core.Bool.{Bool, true, false, cond, _&&_}
@@ -20,12 +20,12 @@ applied (Sub i x) w = set w i x
 applied (Del i x) w = leaveOut i w
 applied (Ins i x) w = putIn i x w
 
--- the letter left out or replaced is one of n; the letter put in stands before one of them or after the last
-abbrev pub Fits : Edit → ℕ → Type 0
-Fits None n = Unit {0}
-Fits (Sub i x) n = (i < n) × (x < 4)
-Fits (Del i x) n = i < n
-Fits (Ins i x) n = (i ≤ n) × (x < 4)
+-- the letter left out or replaced is one of n; the letter put in stands before one of them or after the last; there are q letters
+abbrev pub Fits : ℕ → Edit → ℕ → Type 0
+Fits q None n = Unit {0}
+Fits q (Sub i x) n = (i < n) × (x < q)
+Fits q (Del i x) n = i < n
+Fits q (Ins i x) n = (i ≤ n) × (x < q)
 
 -- two lists are equal
 unfoldable pub same : List ℕ → List ℕ → Bool

@@ -16,6 +16,7 @@ pub mod Tallies
 pub mod Edits
 pub mod Reading
 pub mod Strands
+pub mod WithoutUnknown
 pub mod Sheet
 pub mod Conditions
 pub mod Demand3

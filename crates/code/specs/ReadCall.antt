@@ -39,7 +39,7 @@ use Rattle.code.specs.Strands.{Outcome, outcomes, messagesOf, verdictsOf
 
 -- a foreign letter is refused with its place; else what follows
 abbrev pub foreignTest : Decoded → Checked → Checked
-foreignTest D.Whole next = next
+foreignTest (D.Whole unknown) next = next
 foreignTest (D.Foreign i) next = Refused (ForeignLetter i)
 
 -- a received strand of n letters has too many

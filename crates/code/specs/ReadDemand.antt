@@ -18,7 +18,7 @@ use Rattle.code.specs.Conditions.{OneEdit}
 use Rattle.code.specs.Sheet.{sheetOf, countOf}
 use Rattle.code.specs.ReadCall.{shortBuffers, marksFor}
 
--- the order is taken, and the letters cs are those of symbols s that keep the one-edit conditions for the B bytes bs
+-- the order is taken, and the letters cs are those of numbers s, N among them, that keep the one-edit conditions for the B bytes bs
 pub record Sent (o : Order) (cs bs s : List ℕ) : Type 0 where
   pub order : Taken o
   pub size : length bs ≡ o .b

@@ -1,5 +1,6 @@
--- Steps 1 to 9 of reading one segment (SPECIFICATION.md, section 4). `s` is the received symbols from the segment's start P on; `letters` is the
--- same letters as the tests for a clean segment and the piece look at them. A place past the end matches nothing.
+-- Steps 1 to 9 of reading one segment (SPECIFICATION.md, section 4). `letters` is the received letters from the segment's start P on, N among
+-- them; `s` is the symbols that they are read as, N as A. Only the tests for a clean segment, in steps 8 and 10, look at the letters. A place past
+-- the end matches nothing.
 --   isPrefix     a block stands at the front of a list
 --   Shift        the small numbers 0, −1 and +1 in the order in which they are tried
 --   whole        step 1
@@ -130,9 +131,10 @@ readMessage marked k s =
     cond (whole marked s) (readWhole k (drop (dataAt marked) s) (separatorAt k (drop (dataAt marked) s)))
     (readHit k s (separatorAt k (drop (dataAt marked) s)))
 
--- a clean segment of k message symbols stands at the front: exactly a segment, f being the last symbol before it
-unfoldable pub clean : ℕ → ℕ → List ℕ → Bool
-clean k f letters = isPrefix (segment true f (take k (drop 2 letters))) letters
+-- a clean segment of k message symbols stands at the front: the letters are exactly a segment, f being the last symbol before it; an N is
+-- no letter of one
+unfoldable pub clean : ℕ → ℕ → List ℕ → List ℕ → Bool
+clean k f s letters = isPrefix (segment true f (take k (drop 2 s))) letters
 
 -- step 8: whether the symbols after the separator settle the end
 abbrev pub settled : ℕ → List ℕ → List ℕ → Option Shift → Bool
@@ -155,24 +157,24 @@ endOf marked k [] s letters m = some (length letters)
 endOf marked k (next ∷ ks) s letters m =
     let d = drop (dataAt marked) s in
     cond (settled k d m (separatorAt k d)) (some (dataAt marked + behind k (separatorAt k d)))
-    (around (size marked k) (firstShift (λ e. clean next (lastOf m) (drop (moved e (size marked k)) letters))))
+    (around (size marked k) (firstShift (λ e. clean next (lastOf m) (drop (moved e (size marked k)) s) (drop (moved e (size marked k)) letters))))
 
 -- a segment read, with message, edit and end; or the step that loses it
 pub data SegmentResult : Type 0 where
   read : List ℕ → Edit → ℕ → SegmentResult
   lost : ℕ → SegmentResult
 
--- step 9: the piece against the segment written anew
+-- step 9: the piece, as symbols, against the segment written anew
 abbrev pub withEdit : List ℕ → ℕ → Option Edit → SegmentResult
 withEdit m o (some e) = read m e o
 withEdit m o none = SegmentResult.lost 9
 
 abbrev pub withEnd : Bool → ℕ → List ℕ → List ℕ → Option ℕ → SegmentResult
-withEnd marked f letters m (some o) = withEdit m o (judged (segment marked f m) (take o letters))
-withEnd marked f letters m none = SegmentResult.lost 8
+withEnd marked f s m (some o) = withEdit m o (judged (segment marked f m) (take o s))
+withEnd marked f s m none = SegmentResult.lost 8
 
 abbrev pub withMessage : Bool → ℕ → ℕ → List ℕ → List ℕ → List ℕ → MessageResult → SegmentResult
-withMessage marked f k ks s letters (message m) = withEnd marked f letters m (endOf marked k ks s letters m)
+withMessage marked f k ks s letters (message m) = withEnd marked f s m (endOf marked k ks s letters m)
 withMessage marked f k ks s letters (lost step) = SegmentResult.lost step
 
 -- steps 1 to 9 of a segment of k message symbols; ks are the lengths of those after it

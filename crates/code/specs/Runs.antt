@@ -5,6 +5,7 @@ use mathlib.Core.List.{List, [], _∷_, map}
 use Prim.Native.String.{String}
 use lib.Dec.{T}
 use Rattle.code.specs.Ascii.{digits}
+use Rattle.code.specs.Symbols.{asSymbols, hasUnknown}
 use Rattle.code.specs.Layers.{bits, number, width, syndrome, pair, ones, sumOfPlaces, sumFrom, firstPower}
 use Rattle.code.specs.Repair.{flips, lefts, puts, linked, firstWith, repair}
 use Rattle.code.specs.Segment.{total, check, sep, syndromeOf, separator, marker, block, segment, lastOf, size}
@@ -15,13 +16,13 @@ use Rattle.code.specs.Strands.{above, pairs, firstStart, scan, reading, 
 use Rattle.code.specs.Verdicts.{verdictNumber}
 use Rattle.code.specs.declared.Edit.the-variants.{None, Sub, Del, Ins}
 use Rattle.code.specs.declared.Verdict.{Verdict}
-use Rattle.code.specs.declared.Verdict.the-variants.{Read, Lost, NoStart}
+use Rattle.code.specs.declared.Verdict.the-variants.{Read, Unknown, Lost, NoStart}
 
--- received symbols, and the verdicts on the three segments
+-- received letters, 4 for N, and the verdicts on the three segments
 pub data Run : Type 0 where
   gives : String → List Verdict → Run
 
--- the reading of the symbols gives these verdicts, compared by their numbers
+-- the reading of the letters gives these verdicts, compared by their numbers
 unfoldable pub right : Run → Bool
 right (gives s vs) = same (map verdictNumber (verdictsOf (outcomes (2 ∷ 3 ∷ 2 ∷ []) (digits s)))) (map verdictNumber vs)
 
@@ -96,6 +97,20 @@ runs =
     -- 29. a bad first segment of 1 letter: no separator, check 1 against the sum 0: step 6; the scan finds 1, the first start above P, with d =
     -- −7, f = 3
     ∷ gives "31123120001231130311103" (Lost 6 ∷ Read None ∷ Read None ∷ [])
+    -- 30. an N in the place of an A of the first message: read as A, the segment stands exactly, and its piece has an N
+    ∷ gives "411333101123120001231130311103" (Unknown ∷ Read None ∷ Read None ∷ [])
+    -- 31. an N in the place of another message letter of the second: read as A, as in run 2
+    ∷ gives "011333101124120001231130311103" (Read None ∷ Read (Sub 3 0) ∷ Read None ∷ [])
+    -- 32. an N put in inside a syndrome: read as A, as in run 12
+    ∷ gives "0113331011231200012431130311103" (Read None ∷ Read (Ins 11 0) ∷ Read None ∷ [])
+    -- 33. the first syndrome hit as in run 26, and an N in the place of an A of the second's separator: no segment is clean at 8, and no other e
+    -- fits: step 8; at 8 the marker would be 0 for f = 1, and no other d fits
+    ∷ gives "011333111123124001231130311103" (Lost 8 ∷ NoStart ∷ NoStart ∷ [])
+    -- 34. the bad first segment of run 13, and the same N: no segment is clean at 8, and no other d fits
+    ∷ gives "102033331123124001231130311103" (Lost 7 ∷ NoStart ∷ NoStart ∷ [])
+    -- 35. a bad first segment that ends in an N: j = +1, and 0 1 behind it, N read as A, is the syndrome of 1 0; the end at 9 by the syndrome seen,
+    -- more than one edit away: step 9; the scan finds 8 with d = 0, f being A, and no N stands in its segment
+    ∷ gives "102033341123120001231130311103" (Lost 9 ∷ Read None ∷ Read None ∷ [])
     ∷ []
 
 unfoldable pub every : List Run → Bool
@@ -106,5 +121,5 @@ every (r ∷ rs) = right r && every rs
 pub runs-right : T (every runs)
 unfolding every right bits number width syndrome pair ones sumOfPlaces sumFrom firstPower flips lefts puts linked firstWith repair total check sep
     syndromeOf separator marker block segment lastOf size same firstEdit judged isPrefix twoEqual threeEqual separatorAt checkAgrees
-    syndromeAgrees repaired messageAt messageWithout readMessage clean endOf readSegment above pairs firstStart scan reading
+    syndromeAgrees repaired messageAt messageWithout readMessage clean endOf readSegment above pairs firstStart scan reading asSymbols hasUnknown
 runs-right = tt

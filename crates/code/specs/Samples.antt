@@ -6,7 +6,7 @@ use Prim.Native.Nat.{ℕ}
 use lib.Dec.{T, eqb}
 use lib.ListN.{replicate}
 use Rattle.code.specs.Ascii.{ascii, digits}
-use Rattle.code.specs.Symbols.{bytes, symbols, legible}
+use Rattle.code.specs.Symbols.{bytes, symbols, legible, asSymbols, hasUnknown}
 use Rattle.code.specs.Layers.{bits, number, width, syndrome, pair, ones, sumOfPlaces, sumFrom, firstPower}
 use Rattle.code.specs.Repair.{flips, lefts, puts, linked, firstWith, repair}
 use Rattle.code.specs.Segment.{total, check, sep, syndromeOf, separator, marker, block, segment, lastOf, size}
@@ -71,5 +71,5 @@ of-every (x ∷ rs) t r (List·Memᴰ·tail m) = of-every rs (both (holds x) (ev
 
 -- every row is right
 pub rows-hold : (r : Row) → List·Memᴰ r rows → T (holds r)
-unfolding every holds inBits fromBits allAre bytes symbols legible bits number width syndrome pair ones sumOfPlaces sumFrom firstPower flips lefts puts linked firstWith repair total check sep syndromeOf separator marker block segment lastOf size cut joined written extent strandOf same firstEdit judged isPrefix twoEqual threeEqual separatorAt checkAgrees syndromeAgrees repaired messageAt messageWithout readMessage clean endOf readSegment above pairs firstStart scan reading
+unfolding every holds inBits fromBits allAre bytes symbols legible bits number width syndrome pair ones sumOfPlaces sumFrom firstPower flips lefts puts linked firstWith repair total check sep syndromeOf separator marker block segment lastOf size cut joined written extent strandOf same firstEdit judged isPrefix twoEqual threeEqual separatorAt checkAgrees syndromeAgrees repaired messageAt messageWithout readMessage clean endOf readSegment above pairs firstStart scan reading asSymbols hasUnknown
 rows-hold = of-every rows tt

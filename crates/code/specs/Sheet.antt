@@ -13,7 +13,7 @@ use lib.ListN.{length, replicate}
 use Rattle.code.specs.Symbols.{bytes}
 use Rattle.code.specs.declared.Edit.the-variants.{None, Sub, Del, Ins}
 use Rattle.code.specs.declared.Verdict.{Verdict}
-use Rattle.code.specs.declared.Verdict.the-variants.{Read, Lost, NoStart}
+use Rattle.code.specs.declared.Verdict.the-variants.{Read, Unknown, Lost, NoStart}
 use Rattle.code.specs.declared.Counted.{Counted}
 use Rattle.code.specs.declared.Counted.the-variants.{Counts}
 
@@ -23,6 +23,7 @@ markOf (Read None) = 0
 markOf (Read (Sub i x)) = 1
 markOf (Read (Del i x)) = 1
 markOf (Read (Ins i x)) = 1
+markOf Unknown = 1
 markOf (Lost step) = 2
 markOf NoStart = 2
 

@@ -1,21 +1,24 @@
 -- Letters, symbols and bytes (SPECIFICATION.md, table 1 and section 2).
 --   Below      every entry of a list is below a number
---   letterOf   the letter of a symbol
---   symbolOf   what a byte is: a letter with its symbol, or no letter
---   letters    symbols as letters
---   legible    the symbols of the letters before the first foreign byte
---   decoded    whether all bytes are letters, or the first place that is none
+--   unknown    the letter N as a number
+--   letterOf   the letter of a number
+--   symbolOf   what a byte is: a letter with its symbol, unknown, or no letter
+--   letters    numbers as letters
+--   legible    the letters before the first foreign byte, as numbers
+--   decoded    whether all bytes are letters, and an N among them, or the first place that is none
+--   asSymbols  letters as the symbols that they are read as
+--   hasUnknown an N is among letters
 --   symbolsOf  the four symbols of a byte
 --   byteOf     the byte of four symbols
 --   symbols    bytes as symbols
 --   bytes      symbols as bytes
 use Prim.Native.Nat.{ℕ, suc, _+_, _*_, _/_, _%_, _<_}
-use mathlib.Core.Bool.{cond}
+use mathlib.Core.Bool.{Bool, true, false, cond, _||_}
 use mathlib.Core.List.{List, [], _∷_, _++_, map}
-use lib.Dec.{eqb}
+use lib.Dec.{eqb, ltb}
 use lib.ListN.{getD}
 use Rattle.code.specs.declared.Letter.{Letter}
-use Rattle.code.specs.declared.Letter.the-variants.{Symbol, Foreign}
+use Rattle.code.specs.declared.Letter.the-variants.{Symbol, Unknown, Foreign}
 use Rattle.code.specs.declared.Decoded.{Decoded}
 use Rattle.code.specs.declared.Decoded.the-variants as D
 
@@ -23,41 +26,67 @@ use Rattle.code.specs.declared.Decoded.the-variants as D
 abbrev pub Below : ℕ → List ℕ → Type 0
 Below n l = (i : ℕ) → getD l i 0 < n
 
--- the letters A, T, C and G in ASCII stand for 0, 1, 2 and 3
+-- a received letter is kept as the number of its symbol, and N, which has none, as 4
+abbrev pub unknown : ℕ
+unknown = 4
+
+-- how many letters may be received: A, T, C, G and N
+abbrev pub letterKinds : ℕ
+letterKinds = 5
+
+-- the letters A, T, C, G and N in ASCII stand for 0, 1, 2, 3 and 4
 abbrev pub letterOf : ℕ → ℕ
-letterOf s = getD (65 ∷ 84 ∷ 67 ∷ 71 ∷ []) s 0
+letterOf s = getD (65 ∷ 84 ∷ 67 ∷ 71 ∷ 78 ∷ []) s 0
 
--- A is 0, T is 1, C is 2 and G is 3; any other byte is foreign
+-- A is 0, T is 1, C is 2 and G is 3; N is unknown; any other byte is foreign
 abbrev pub symbolOf : ℕ → Letter
-symbolOf c = cond (eqb c 65) (Symbol 0) (cond (eqb c 84) (Symbol 1) (cond (eqb c 67) (Symbol 2) (cond (eqb c 71) (Symbol 3) Foreign)))
+symbolOf c =
+    cond (eqb c 65) (Symbol 0) (cond (eqb c 84) (Symbol 1) (cond (eqb c 67) (Symbol 2) (cond (eqb c 71) (Symbol 3) (cond (eqb c 78) Unknown Foreign))))
 
--- symbols written as letters
+-- numbers written as letters
 abbrev pub letters : List ℕ → List ℕ
 letters m = map letterOf m
 
--- a letter's symbol before the symbols of what follows; nothing from a foreign byte on
+-- a letter's number before those of what follows; nothing from a foreign byte on
 abbrev pub before : Letter → List ℕ → List ℕ
 before (Symbol s) m = s ∷ m
+before Unknown m = unknown ∷ m
 before Foreign m = []
 
--- the symbols of the letters before the first foreign byte
+-- the letters before the first foreign byte, as numbers
 unfoldable pub legible : List ℕ → List ℕ
 legible [] = []
 legible (c ∷ cs) = before (symbolOf c) (legible cs)
 
--- the verdict of what follows a letter; at a foreign byte its place
+-- letters throughout have an N among them
+abbrev pub withUnknown : Decoded → Decoded
+withUnknown (D.Whole unknown) = D.Whole true
+withUnknown (D.Foreign i) = D.Foreign i
+
+-- the verdict of what follows a symbol's letter, or an N; at a foreign byte its place
 abbrev pub unless : Letter → ℕ → Decoded → Decoded
 unless (Symbol s) i d = d
+unless Unknown i d = withUnknown d
 unless Foreign i d = D.Foreign i
 
 -- the verdict on bytes of which the first stands at place i
 unfoldable pub decodedFrom : ℕ → List ℕ → Decoded
-decodedFrom i [] = D.Whole
+decodedFrom i [] = D.Whole false
 decodedFrom i (c ∷ cs) = unless (symbolOf c) i (decodedFrom (suc i) cs)
 
--- all bytes are letters, or the first place, from 0, that is none
+-- all bytes are letters, and whether an N is among them; or the first place, from 0, that is none
 abbrev pub decoded : List ℕ → Decoded
 decoded cs = decodedFrom 0 cs
+
+-- letters as the symbols that they are read as: a symbol as itself, N as A, since 4 is 0 modulo 4
+unfoldable pub asSymbols : List ℕ → List ℕ
+asSymbols [] = []
+asSymbols (c ∷ cs) = (c % 4) ∷ asSymbols cs
+
+-- an N is among letters: one of them is no symbol
+unfoldable pub hasUnknown : List ℕ → Bool
+hasUnknown [] = false
+hasUnknown (c ∷ cs) = ltb 3 c || hasUnknown cs
 
 -- a byte is four symbols, its highest two bits first
 abbrev pub symbolsOf : ℕ → List ℕ

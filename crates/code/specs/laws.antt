@@ -18,6 +18,7 @@ pub mod Tallies
 pub mod Edits
 pub mod Judged
 pub mod Reading
+pub mod Letters
 pub mod EditedMessage
 pub mod EditedBlock
 pub mod HitTail
@@ -27,10 +28,13 @@ pub mod HitStretch
 pub mod HitSegment
 pub mod EditedSegment
 pub mod OneSegment
+pub mod CleanLetters
+pub mod WithinLimits
+pub mod ReceivedSegment
 pub mod Strands
+pub mod WithoutUnknown
 pub mod Regained
 pub mod Demand3
-pub mod WithinLimits
 pub mod MessageLengths
 pub mod MessageBelow
 pub mod LostSteps

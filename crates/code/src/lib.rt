@@ -1,14 +1,15 @@
 // The enums that the house's answers use. What they mean is said in specs/.
 
-// What a byte of a strand is: a letter with its symbol, or no letter.
+// What a byte of a strand is: a letter with its symbol, the letter N, which stands for an unknown one, or no letter.
 pub enum Letter {
     Symbol(u8),
+    Unknown,
     Foreign,
 }
 
-// Whether a strand is letters throughout, or where its first foreign byte stands.
+// A strand of letters throughout, and whether an N is among them; or where its first foreign byte stands.
 pub enum Decoded {
-    Whole,
+    Whole(bool),
     Foreign(usize),
 }
 
@@ -92,9 +93,10 @@ pub enum Edit {
     Ins(usize, u8),
 }
 
-// What is said of a segment: read with an edit, lost in a step, or lost for want of a start.
+// What is said of a segment: read with an edit; read with none from a piece with an N; lost in a step; lost for want of a start.
 pub enum Verdict {
     Read(Edit),
+    Unknown,
     Lost(u8),
     NoStart,
 }

@@ -1,12 +1,15 @@
 -- What the C calls answer: the answers of the calls, number by number.
 --   answered      an answer told in numbers, with the buffers as the call leaves them
+--   fromLetter    what a byte is
 --   fromWrote     the answer of a writing
 --   fromCounted   the answer of a reading
 --   fromLocated   the answer of a piece call
 --   fromLabelled  the answer of a label that is read
 --   asTally       a tally as the tally call takes it
 --   fromTallied   the answer of adding to a tally
-use Prim.Native.Nat.{_-_}
+use Prim.Native.Nat.{ℕ, _-_}
+use Rattle.code.specs.declared.Letter.{Letter}
+use Rattle.code.specs.declared.Letter.the-variants.{Symbol, Unknown, Foreign}
 use Rattle.code.specs.declared.Wrote.{Wrote}
 use Rattle.code.specs.declared.Wrote.the-variants as W
 use Rattle.code.specs.declared.Counted.{Counted}
@@ -28,6 +31,12 @@ use Rattle.dnalm.specs.declared.Tallied.{Tallied}
 -- a call's answer told in numbers, with its buffers as they are
 abbrev pub answered : {A B C : Type 0} → (A → B) → A × C → B × C
 answered tell result = (tell (result .0), result .1)
+
+-- what a byte is: the symbol of a letter, 4 for an unknown one, 5 for a foreign byte
+abbrev pub fromLetter : Letter → ℕ
+fromLetter (Symbol s) = s
+fromLetter Unknown = 4
+fromLetter Foreign = 5
 
 -- the answer of a writing
 abbrev pub fromWrote : Wrote → Written

@@ -2,16 +2,18 @@
 // In an answer `refusal` is 0 where the call is taken and else the refusal's number; `place` is the first foreign letter's, from 0,
 // where `refusal` is 6, and else 0. The other numbers of a refused call are 0; those of a tally are the old ones.
 ghost use mathlib.Core.Path.{_≡_};
+ghost use Rattle.code.specs.Symbols.{symbolOf};
 ghost use Rattle.code.specs.Refusals.{testNumber};
 ghost use Rattle.code.specs.Writing.{writeCall};
 ghost use Rattle.code.specs.ReadCall.{readCall, locateCall};
 ghost use Rattle.code.specs.Order.{order};
 ghost use Rattle.code.specs.Label.{labelCall, labelRead};
 ghost use Rattle.code.specs.Tallies.{tallied};
-ghost use Rattle.dnalm.specs.CallAnswers.{answered, fromWrote, fromCounted, fromLocated, fromLabelled, asTally, fromTallied};
+ghost use Rattle.dnalm.specs.CallAnswers.{answered, fromLetter, fromWrote, fromCounted, fromLocated, fromLabelled, asTally, fromTallied};
 ghost use Rattle.dnalm.specs.Demand3Counts.{Demand-3-counts};
 use code::Checked;
 use code::Counted;
+use code::Letter;
 use code::Located;
 use code::Wrote;
 
@@ -70,6 +72,20 @@ pub struct Tallied {
     pub lost: u32,
 }
 
+// Answers what a byte of a strand is, as `symbols::symbol_of` does: 0 to 3 for the symbol of A, T, C and G, 4 for N, which stands for an unknown
+// letter, 5 for a foreign byte.
+#[no_mangle]
+pub extern "C" fn dnalm_letter(byte: u8) -> u8
+    ensures { λ r. ⌜ r ≡ fromLetter (symbolOf byte) ⌝ }
+{
+    let letter = symbols::symbol_of(byte);
+    match letter {
+        Letter::Symbol(s) => s,
+        Letter::Unknown => 4,
+        Letter::Foreign => 5,
+    }
+}
+
 // The answer of a writing in numbers.
 fn told(wrote: Wrote) -> Written
     ensures { λ r. ⌜ r ≡ fromWrote wrote ⌝ }
@@ -99,7 +115,8 @@ pub extern "C" fn dnalm_write(lengths: &[u16], b: u32, message: &[u8], out: &mut
 }
 
 // Reads a strand: the message to the front of `message` and the marks to the front of `sheet`, as `reader::read` does.
-// The second clause is demand 3: letters with at most one edit in each segment give the message that was written, and nothing lost.
+// The second clause is demand 3: letters with at most one edit in each segment, N among the letters, give the message that was written, and
+// nothing lost.
 #[no_mangle]
 pub extern "C" fn dnalm_read(
     lengths: &[u16],

@@ -19,7 +19,7 @@ use Rattle.code.specs.Strands.{outcomes}
 use Rattle.code.specs.ReadCall.{pieceTest, outcomesOf, pieceStart, pieceLength, pieceOf, locatedAs, locateCall}
 use Rattle.code.specs.laws.ReadCall.{piece-taken, piece-inside}
 
--- what locating the piece of segment i answers, s being the symbols of the letters
+-- what locating the piece of segment i answers, s being the letters as numbers
 pub located-is : (o : Order) (cs s : List ℕ) (i : ℕ) (r : Located) → s ≡ legible cs → pieceTest o cs i ≡ Fine → r ≡ locatedAs (outcomes (o .lengths) s) (i - 1) → r ≡ locateCall o cs i
 located-is o cs s i r same tested e = rw tested (rw same at e)
 
@@ -56,6 +56,6 @@ module _ (o : Order) (cs : List ℕ) (i : ℕ) where
       record {
         tested = p .0;
         ordered = omega (arith, p .1, p .2);
-        inside = omega (arith, p .1, p .2, piece-inside o cs (q .0) (q .1) (i - 1));
+        inside = omega (arith, p .1, p .2, piece-inside o cs (q .0) (q .1 .0) (q .1 .1) (i - 1));
         letters = rw (m, p .1);
       }

@@ -6,18 +6,19 @@ use code::Refusal;
 use reading::read_layout;
 use refusal::received_test;
 ghost use mathlib.Core.Path.{_≡_};
-ghost use Prim.Native.Nat.{_<_};
+ghost use Prim.Native.Nat.{_<_, _≤_};
 ghost use lib.ListN.{length};
-ghost use Rattle.code.specs.Bounds.{Received};
+ghost use Rattle.code.specs.Symbols.{hasUnknown};
+ghost use Rattle.code.specs.Limits.{mostLetters};
 ghost use Rattle.code.specs.Order.{order, Taken};
 ghost use Rattle.code.specs.Strands.{outcomes};
 ghost use Rattle.code.specs.ReadCall.{locatedAs, pieceCall, locateCall};
 
-// Where the i-th piece stands, from 0, in symbols read as the segments of an order.
-fn span_of(lengths: &[u16], b: u32, s: &[u8], i: usize) -> Located
-    requires { ⌜ Received (now s) ⌝ }
+// Where the i-th piece stands, from 0, in letters as numbers, read as the segments of an order.
+fn span_of(lengths: &[u16], b: u32, letters: &[u8], unknown: bool, i: usize) -> Located
+    requires { ⌜ (length (now letters) ≤ mostLetters) × (unknown ≡ hasUnknown (now letters)) ⌝ }
     requires { ⌜ Taken (order (now lengths) b) × (i < length (now lengths)) ⌝ }
-    ensures { λ r. ⌜ r ≡ locatedAs (outcomes (now (lengths .entry)) (now (s .entry))) i ⌝ }
+    ensures { λ r. ⌜ r ≡ locatedAs (outcomes (now (lengths .entry)) (now (letters .entry))) i ⌝ }
 {
     let mut symbols = [0u8; 512];
     let mut verdicts = [0u32; 64];
@@ -26,7 +27,8 @@ fn span_of(lengths: &[u16], b: u32, s: &[u8], i: usize) -> Located
     let l = lengths.len();
     read_layout(
         lengths,
-        s,
+        letters,
+        unknown,
         &mut symbols[..n],
         &mut verdicts[..l],
         &mut ends[..l],
@@ -48,17 +50,19 @@ pub fn locate(lengths: &[u16], b: u32, letters: &[u8], segment: u32) -> Located
     if let Checked::Refused(r) = received {
         return Located::Refused(r);
     }
-    let mut s = [0u8; 2048];
-    let decoded = symbols::decode(letters, &mut s);
-    if let Decoded::Foreign(i) = decoded {
-        return Located::Refused(Refusal::ForeignLetter(i));
+    let mut legible = [0u8; 2048];
+    let decoded = symbols::decode(letters, &mut legible);
+    match decoded {
+        Decoded::Whole(unknown) => {
+            let number = segment as usize;
+            if refusal::outside(1, lengths.len(), number) {
+                return Located::Refused(Refusal::NoSuchSegment);
+            }
+            let n = letters.len();
+            span_of(lengths, b, &legible[..n], unknown, number - 1)
+        }
+        Decoded::Foreign(i) => Located::Refused(Refusal::ForeignLetter(i)),
     }
-    let number = segment as usize;
-    if refusal::outside(1, lengths.len(), number) {
-        return Located::Refused(Refusal::NoSuchSegment);
-    }
-    let n = letters.len();
-    span_of(lengths, b, &s[..n], number - 1)
 }
 
 // Hands back the piece of a segment, from 1: its stretch of the caller's own `letters`, received for an order; `number` and

@@ -64,7 +64,7 @@ fn output(input: &[u8], out: &mut [u8]) -> usize
 // The buffer holds every pair of lines that is taken; a line that it does not hold whole is refused as too long.
 fn main() {
     if console::is_wrong_use(
-        b"read_strand takes no arguments. It reads two lines: a label in hexadecimal digits, and a strand in the letters A, T, C and G.\n",
+        b"read_strand takes no arguments. It reads two lines: a label in hexadecimal digits, and a strand in the letters A, T, C, G and N.\n",
     ) {
         return;
     }

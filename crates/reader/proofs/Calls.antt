@@ -27,7 +27,7 @@ room o n m e =
     (ltb-false n (o .b) (p .0), ltb-false m (sheetBytes (length (o .lengths))) (p .1))
 
 module _ (o : Order) (cs message sheet : List ℕ) (result : Counted × (List ℕ × List ℕ)) where
-  -- what a reading that is taken gives, s being the symbols of its letters
+  -- what a reading that is taken gives, s being its letters as numbers
   pub read-is : (s : List ℕ) → s ≡ legible cs → readTest o cs (length message) (length sheet) ≡ Fine → result ≡ readAs (outcomes (o .lengths) s) message sheet → result ≡ readCall o cs message sheet
   read-is s same tested e = rw tested (rw same at e)
 

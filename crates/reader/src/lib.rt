@@ -8,20 +8,29 @@ use refusal::received_test;
 use refusal::short_buffers;
 ghost use mathlib.Core.Path.{_≡_};
 ghost use mathlib.Core.Bool.{false};
+ghost use Prim.Native.Nat.{_≤_};
 ghost use lib.ListN.{length};
-ghost use Rattle.code.specs.Bounds.{Received};
+ghost use Rattle.code.specs.Symbols.{hasUnknown};
+ghost use Rattle.code.specs.Limits.{mostLetters};
 ghost use Rattle.code.specs.Order.{order, Taken};
 ghost use Rattle.code.specs.Strands.{outcomes};
 ghost use Rattle.code.specs.ReadCall.{shortBuffers, readAs, readCall};
 ghost use Rattle.code.specs.ReadDemand.{Demand-3-call};
 
-// Reads the segments of an order: bytes at the front of `message`, marks at the front of `sheet`, and their counts.
-fn read_symbols(lengths: &[u16], b: u32, s: &[u8], message: &mut [u8], sheet: &mut [u8]) -> Counted
-    requires { ⌜ Received (now s) ⌝ }
+// Reads the segments of an order from letters as numbers: bytes at the front of `message`, marks at the front of `sheet`, and their counts.
+fn read_letters(
+    lengths: &[u16],
+    b: u32,
+    letters: &[u8],
+    unknown: bool,
+    message: &mut [u8],
+    sheet: &mut [u8],
+) -> Counted
+    requires { ⌜ (length (now letters) ≤ mostLetters) × (unknown ≡ hasUnknown (now letters)) ⌝ }
     requires { ⌜ Taken (order (now lengths) b) ⌝ }
     requires { ⌜ shortBuffers (order (now lengths) b) (length (now message)) (length (now sheet)) ≡ false ⌝ }
     ensures { λ r. do
-      let os = outcomes (now (lengths .entry)) (now (s .entry)) in
+      let os = outcomes (now (lengths .entry)) (now (letters .entry)) in
           ⌜ (r, (now (message .exit), now (sheet .exit))) ≡ readAs os (now (message .entry)) (now (sheet .entry)) ⌝ }
 {
     let mut symbols = [0u8; 512];
@@ -32,7 +41,8 @@ fn read_symbols(lengths: &[u16], b: u32, s: &[u8], message: &mut [u8], sheet: &m
     let l = lengths.len();
     read_layout(
         lengths,
-        s,
+        letters,
+        unknown,
         &mut symbols[..n],
         &mut verdicts[..l],
         &mut ends[..l],
@@ -45,12 +55,13 @@ fn read_symbols(lengths: &[u16], b: u32, s: &[u8], message: &mut [u8], sheet: &m
 
 // Reads a strand: the received `letters`, written on the layout `lengths` for B = `b`. The B bytes of the message go to the front of
 // `message`, zeros where a segment is lost; the sheet goes to the front of `sheet`, two bits for each segment, the first in the highest
-// bits: 0 clean, 1 corrected, 2 lost. Answers how many segments are clean, corrected and lost.
+// bits: 0 clean, 1 corrected, 2 lost. Answers how many segments are clean, corrected and lost. N is read as A, and a segment with an N is not clean.
 // Turned down, in this order: 1 a length is not 2 to 64; 2 B is not 1 to 128; 3 there are no lengths or more than 64, or they do not
 // sum to 4B; 4 there are more than 2,048 letters; 5 `message` has fewer than B bytes, or `sheet` fewer than one for each four
-// segments; 6 a byte is none of A, T, C and G, with the first such place.
+// segments; 6 a byte is none of A, T, C, G and N, with the first such place.
 // The bytes behind the message and behind the sheet are untouched; a refusal leaves both buffers as they were.
-// The second clause is demand 3: letters with at most one edit in each segment give the message that was written, and nothing lost.
+// The second clause is demand 3: letters with at most one edit in each segment, N among the letters, give the message that was written, and
+// nothing lost.
 pub fn read(
     lengths: &[u16],
     b: u32,
@@ -72,11 +83,13 @@ pub fn read(
     if short_buffers(lengths, b, message.len(), sheet.len()) {
         return Counted::Refused(Refusal::ShortBuffer);
     }
-    let mut s = [0u8; 2048];
-    let decoded = symbols::decode(letters, &mut s);
-    if let Decoded::Foreign(i) = decoded {
-        return Counted::Refused(Refusal::ForeignLetter(i));
+    let mut legible = [0u8; 2048];
+    let decoded = symbols::decode(letters, &mut legible);
+    match decoded {
+        Decoded::Whole(unknown) => {
+            let n = letters.len();
+            read_letters(lengths, b, &legible[..n], unknown, message, sheet)
+        }
+        Decoded::Foreign(i) => Counted::Refused(Refusal::ForeignLetter(i)),
     }
-    let n = letters.len();
-    read_symbols(lengths, b, &s[..n], message, sheet)
 }

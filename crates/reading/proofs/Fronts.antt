@@ -1,5 +1,7 @@
 -- What a reading is lent, and what it leaves at the fronts of arrays and buffers.
 --   lent-symbols, lent-entries                     how much the parts of arrays hold that a reading is lent
+--   front-symbols, front-received                  the symbols that letters are read as, in an array
+--   known-received                                 letters without an N
 --   Front                                          what stands at the front of an array
 --   front-put                                      the front of an array that a call was lent
 --   front-below                                    symbols at the front of an array
@@ -12,7 +14,10 @@ use Prim.Native.Nat.{ℕ, _*_, _≤_}
 use native.Mathlib.Omega.{arith}
 use lib.ListN.{length, take, drop, replicate, length-append, length-map}
 use lib.Seq.{take-at, length-take-le}
-use Rattle.code.specs.Symbols.{Below}
+use Rattle.code.specs.Symbols.{Below, asSymbols, hasUnknown}
+use Rattle.code.specs.laws.Letters.{length-as, as-below, as-known}
+use Rattle.code.specs.Limits.{mostLetters}
+use Rattle.code.specs.Bounds.{Received}
 use Rattle.code.specs.Order.{Order, Taken}
 use Rattle.code.specs.laws.Order.{order-fine}
 use Rattle.code.specs.Sheet.{marksOf}
@@ -27,6 +32,18 @@ pub record Front (n : ℕ) (y a : List ℕ) : Type 0 where
   pub inside : n ≤ length a
   pub entries : take n a ≡ y
   pub count : length (take n a) ≡ n
+
+-- the symbols that letters are read as, at the front of an array
+module _ (letters d out : List ℕ) (put : out ≡ overFront (asSymbols letters) d) where
+  pub front-symbols : take (length letters) out ≡ asSymbols letters
+  front-symbols = ap (take (length letters)) put ∙ take-at (asSymbols letters) (drop (length (asSymbols letters)) d) (length letters) (length-as letters)
+
+  pub front-received : length letters ≤ mostLetters → Received (take (length letters) out)
+  front-received h = rw front-symbols (record { symbols = as-below letters; short = rw (length-as letters) h })
+
+-- letters without an N are symbols
+pub known-received : (letters : List ℕ) → hasUnknown letters ≡ false → length letters ≤ mostLetters → Received letters
+known-received letters e h = record { symbols = subst (Below 4) (as-known letters e) (as-below letters); short = h }
 
 -- x was put at the front of an array
 pub front-put : (x y r : List ℕ) (n : ℕ) → x ≡ y → length y ≡ n → Front n y (x ++ r)
@@ -49,15 +66,15 @@ module _ (o : Order) (t : Taken o) where
   pub lent-entries : length {A = ℕ} (take (length (o .lengths)) (replicate 64 0)) ≡ length (o .lengths)
   lent-entries = length-take-le (length (o .lengths)) (replicate 64 0) (order-fine o false t .most-segments)
 
-  module _ (s : List ℕ) where
+  module _ (letters : List ℕ) where
     abbrev os : List Outcome
-    os = outcomes (o .lengths) s
+    os = outcomes (o .lengths) letters
 
     pub messages-length : length (messagesOf os) ≡ 4 * o .b
-    messages-length = length-messages false 0 (o .lengths) s s (order-fine o false t .lengths) ∙ order-fine o false t .whole
+    messages-length = length-messages false 0 (o .lengths) (asSymbols letters) letters (order-fine o false t .lengths) ∙ order-fine o false t .whole
 
     outcomes-length : length os ≡ length (o .lengths)
-    outcomes-length = length-reading false 0 (o .lengths) s s
+    outcomes-length = length-reading false 0 (o .lengths) (asSymbols letters) letters
 
     pub numbers-length : length (map verdictNumber (verdictsOf os)) ≡ length (o .lengths)
     numbers-length = simp length-map outcomes-length

@@ -3,42 +3,116 @@ use scan::Next;
 use scan::next_place;
 use sheet::number_of;
 use steps::read_segment;
+use symbols::as_symbols;
+use symbols::has_unknown;
 ghost use mathlib.Core.Path.{_≡_};
+ghost use mathlib.Core.Bool.{true, false};
 ghost use mathlib.Core.List.{map};
+ghost use Prim.Native.Nat.{_≤_};
 ghost use lib.ListN.{length};
+ghost use Rattle.code.specs.Symbols.{asSymbols, hasUnknown};
+ghost use Rattle.code.specs.Limits.{mostLetters};
 ghost use Rattle.code.specs.Bounds.{longest, Received};
 ghost use Rattle.code.specs.Layout.{sum, Lengths};
-ghost use Rattle.code.specs.Strands.{outcomes, messagesOf, verdictsOf};
-ghost use Rattle.code.specs.Verdicts.{verdictNumber};
+ghost use Rattle.code.specs.Strands.{told, outcomes, messagesOf, verdictsOf};
+ghost use Rattle.code.specs.Verdicts.{verdictNumber, verdictOf};
 ghost use Rattle.reading.specs.Walks.{endsFrom};
 
-// Reads the segments of a layout: their messages, the numbers of their verdicts and where each ends.
-pub fn read_layout(
+// The number of what is said of a segment by its piece: no edit becomes unknown where an N is among its letters. Pieces of a strand without N are
+// not looked at.
+fn said_of(number: u32, piece: &[u8], unknown: bool) -> u32
+    requires { ⌜ number ≡ verdictNumber (verdictOf number) ⌝ }
+    requires { ⌜ (unknown ≡ false → hasUnknown (now piece) ≡ false) ⌝ }
+    ensures { λ r. ⌜ r ≡ verdictNumber (told (verdictOf number) (now (piece .entry))) ⌝ }
+{
+    if !unknown {
+        return number;
+    }
+    if number != 0 {
+        return number;
+    }
+    if has_unknown(piece) {
+        return 1;
+    }
+    number
+}
+
+// Reads the segments of a layout from letters and the symbols s that they are read as; `unknown` says whether an N is among them.
+fn read_segments(
     lengths: &[u16],
     s: &[u8],
+    letters: &[u8],
+    unknown: bool,
     symbols: &mut [u8],
     verdicts: &mut [u32],
     ends: &mut [usize],
 )
-    requires { ⌜ Received (now s) × Lengths longest (now lengths) ⌝ }
+    requires { ⌜ Received (now s) × Lengths longest (now lengths) × (now s ≡ asSymbols (now letters)) × (unknown ≡ hasUnknown (now letters)) ⌝ }
     requires { ⌜ (length (now symbols) ≡ sum (now lengths)) × (length (now verdicts) ≡ length (now lengths)) × (length (now ends) ≡ length (now lengths)) ⌝ }
-    ensures { λ _. ⌜ now (symbols .exit) ≡ messagesOf (outcomes (now (lengths .entry)) (now (s .entry))) ⌝ }
-    ensures { λ _. ⌜ now (verdicts .exit) ≡ map verdictNumber (verdictsOf (outcomes (now (lengths .entry)) (now (s .entry)))) ⌝ }
-    ensures { λ _. ⌜ now (ends .exit) ≡ endsFrom 0 (outcomes (now (lengths .entry)) (now (s .entry))) ⌝ }
+    ensures { λ _. ⌜ now (symbols .exit) ≡ messagesOf (outcomes (now (lengths .entry)) (now (letters .entry))) ⌝ }
+    ensures { λ _. ⌜ now (verdicts .exit) ≡ map verdictNumber (verdictsOf (outcomes (now (lengths .entry)) (now (letters .entry)))) ⌝ }
+    ensures { λ _. ⌜ now (ends .exit) ≡ endsFrom 0 (outcomes (now (lengths .entry)) (now (letters .entry))) ⌝ }
 {
     let mut next = Next::At(0, 0);
+    let mut from = 0;
     let mut at = 0;
     let mut i = 0;
     let mut rest = lengths;
     while 0 < rest.len() {
         let to = at + rest[0] as usize;
         rest = &rest[1..];
-        let answer = read_segment(s, next, i != 0, rest, &mut symbols[at..to]);
+        let answer = read_segment(s, letters, next, i != 0, rest, &mut symbols[at..to]);
         let verdict = answer.verdict;
-        verdicts[i] = number_of(verdict);
+        let number = number_of(verdict);
         next = answer.next;
-        ends[i] = next_place(next, s.len());
+        let end = next_place(next, s.len());
+        verdicts[i] = said_of(number, &letters[from..end], unknown);
+        ends[i] = end;
+        from = end;
         at = to;
         i += 1;
     }
+}
+
+// Reads the segments of a layout from letters with an N among them: the symbols that they are read as stand in an array beside them.
+fn read_unknown(
+    lengths: &[u16],
+    letters: &[u8],
+    symbols: &mut [u8],
+    verdicts: &mut [u32],
+    ends: &mut [usize],
+)
+    requires { ⌜ (length (now letters) ≤ mostLetters) × Lengths longest (now lengths) × (true ≡ hasUnknown (now letters)) ⌝ }
+    requires { ⌜ (length (now symbols) ≡ sum (now lengths)) × (length (now verdicts) ≡ length (now lengths)) × (length (now ends) ≡ length (now lengths)) ⌝ }
+    ensures { λ _. ⌜ now (symbols .exit) ≡ messagesOf (outcomes (now (lengths .entry)) (now (letters .entry))) ⌝ }
+    ensures { λ _. ⌜ now (verdicts .exit) ≡ map verdictNumber (verdictsOf (outcomes (now (lengths .entry)) (now (letters .entry)))) ⌝ }
+    ensures { λ _. ⌜ now (ends .exit) ≡ endsFrom 0 (outcomes (now (lengths .entry)) (now (letters .entry))) ⌝ }
+{
+    let mut s = [0u8; 2048];
+    as_symbols(letters, &mut s);
+    let n = letters.len();
+    read_segments(lengths, &s[..n], letters, true, symbols, verdicts, ends)
+}
+
+// Reads the segments of a layout: their messages, the numbers of their verdicts and where each ends. `unknown` says whether an N is among the letters;
+// without one they are the symbols themselves.
+pub fn read_layout(
+    lengths: &[u16],
+    letters: &[u8],
+    unknown: bool,
+    symbols: &mut [u8],
+    verdicts: &mut [u32],
+    ends: &mut [usize],
+)
+    requires { ⌜ (length (now letters) ≤ mostLetters) × Lengths longest (now lengths) × (unknown ≡ hasUnknown (now letters)) ⌝ }
+    requires { ⌜ (length (now symbols) ≡ sum (now lengths)) × (length (now verdicts) ≡ length (now lengths)) × (length (now ends) ≡ length (now lengths)) ⌝ }
+    ensures { λ _. ⌜ now (symbols .exit) ≡ messagesOf (outcomes (now (lengths .entry)) (now (letters .entry))) ⌝ }
+    ensures { λ _. ⌜ now (verdicts .exit) ≡ map verdictNumber (verdictsOf (outcomes (now (lengths .entry)) (now (letters .entry)))) ⌝ }
+    ensures { λ _. ⌜ now (ends .exit) ≡ endsFrom 0 (outcomes (now (lengths .entry)) (now (letters .entry))) ⌝ }
+{
+    if unknown {
+        read_unknown(lengths, letters, symbols, verdicts, ends);
+        return;
+    }
+    read_segments(lengths, letters, letters, false, symbols, verdicts, ends)
 }

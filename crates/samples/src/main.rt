@@ -25,6 +25,7 @@ fn letter(byte: u8) {
     word(&text);
     match symbols::symbol_of(byte) {
         Letter::Symbol(s) => number(s as u64),
+        Letter::Unknown => word(b" unknown"),
         Letter::Foreign => word(b" foreign"),
     }
     word(b"\n");
@@ -45,14 +46,19 @@ fn byte(x: u8) {
     word(b"\n");
 }
 
-// Whether a strand is letters throughout.
+// Whether a strand is letters throughout, and with an N among them.
 fn strand(letters: &[u8]) {
     let mut out = [0u8; 2048];
     word(b"strand ");
     word(letters);
     if letters.len() <= 2048 {
         match symbols::decode(letters, &mut out) {
-            Decoded::Whole => word(b" whole"),
+            Decoded::Whole(unknown) => {
+                word(b" whole");
+                if unknown {
+                    word(b" with N");
+                }
+            }
             Decoded::Foreign(i) => {
                 word(b" foreign at");
                 number(i as u64);
@@ -172,12 +178,14 @@ fn main() {
     letter(b'G');
     letter(b'N');
     letter(b'a');
+    letter(b'n');
     byte(0x1B);
     byte(0xE4);
     byte(0xFF);
     strand(b"ATCG");
     strand(b"");
     strand(b"ATNGN");
+    strand(b"ATXGN");
     width(2);
     width(3);
     width(4);

@@ -2,6 +2,7 @@
 --   left                         the answer of the starts that are left
 --   unmarked, marked             the clean test, by the marker
 --   Compared                     the symbols of a tail that are compared
+--   letter-by-letter             the letters of a segment whose symbols are clean
 use mathlib.Core.Path.{_≡_, refl, sym, ap, subst, _∙_}
 use mathlib.Core.Bool.{Bool, true, false}
 use mathlib.Core.List.{List, _∷_}
@@ -11,6 +12,7 @@ use native.Mathlib.Omega.{arith}
 use borrow.Author.Tests.{lt-ltb}
 use lib.ListN.{length, getD, take, drop, length-take, length-drop, drop-of-length-le}
 use lib.Seq.{drop-cons, drop-drop, getD-take, length-take-le}
+use Rattle.code.specs.Symbols.{asSymbols}
 use Rattle.code.specs.Bounds.{longest, widest}
 use Rattle.code.specs.Layers.{width}
 use Rattle.code.specs.laws.Layers.{width-least}
@@ -27,16 +29,16 @@ use Rattle.clean.proofs.Parts.{mark-fails, segment-seen}
 use Rattle.scan.specs.declared.Next.{Next}
 use Rattle.scan.specs.declared.Next.the-variants.{Clean, Nowhere}
 use Rattle.scan.specs.Scans.{firstClean, letterBefore, searched}
-use Rattle.scan.specs.laws.Scans.{letter-from}
+use Rattle.scan.specs.laws.Scans.{letter-from, clean-but}
 
 -- The starts that are left
 
-module _ (s : List ℕ) (p n k count : ℕ) (received : Bool) (f : ℕ) where
+module _ (s letters : List ℕ) (p n k count : ℕ) (received : Bool) (f : ℕ) where
   -- the answer of the starts from the i-th on
   unfoldable pub left : ℕ → Next
-  left i = searched received f k p (above (drop i (take count (n ∷ pairs n 1 8)))) s
+  left i = searched received f k p (above (drop i (take count (n ∷ pairs n 1 8)))) s letters
 
-  pub left-whole : left 0 ≡ searched received f k p (above (take count (n ∷ pairs n 1 8))) s
+  pub left-whole : left 0 ≡ searched received f k p (above (take count (n ∷ pairs n 1 8))) s letters
   unfolding left
   left-whole = refl
 
@@ -56,8 +58,8 @@ module _ (s : List ℕ) (p n k count : ℕ) (received : Bool) (f : ℕ) where
         rw add-one (drop-cons (take count l) i 0 (omega arith) ∙ ap (λ (x : ℕ). x ∷ drop (suc i) (take count l)) g)
 
     -- the clean test at the start, counted from the front
-    test : 0 < o → clean k (letterBefore received f (drop p s) o) (drop o (drop p s)) ≡ clean k (letterBefore received f s (p + o)) (drop (p + o) s)
-    test h = rw (drop-drop o p s, letter-from received f s p o h)
+    test : 0 < o → clean k (letterBefore received f (drop p s) o) (drop o (drop p s)) (drop o (drop p letters)) ≡ clean k (letterBefore received f s (p + o)) (drop (p + o) s) (drop (p + o) letters)
+    test h = rw (drop-drop o p s, drop-drop o p letters, letter-from received f s p o h)
 
     -- a start that is not above p
     pub left-zero : o ≡ 0 → left i ≡ left (i + 1)
@@ -65,12 +67,12 @@ module _ (s : List ℕ) (p n k count : ℕ) (received : Bool) (f : ℕ) where
     left-zero e = rw (next, e)
 
     -- a start where no clean segment stands
-    pub left-pass : 0 < o → clean k (letterBefore received f s (p + o)) (drop (p + o) s) ≡ false → left i ≡ left (i + 1)
+    pub left-pass : 0 < o → clean k (letterBefore received f s (p + o)) (drop (p + o) s) (drop (p + o) letters) ≡ false → left i ≡ left (i + 1)
     unfolding left above firstClean
     left-pass h e = rw (next, lt-ltb 0 o h, test h, e)
 
     -- a start where one stands
-    pub left-found : 0 < o → clean k (letterBefore received f s (p + o)) (drop (p + o) s) ≡ true → left i ≡ Clean (p + o) (letterBefore received f s (p + o))
+    pub left-found : 0 < o → clean k (letterBefore received f s (p + o)) (drop (p + o) s) (drop (p + o) letters) ≡ true → left i ≡ Clean (p + o) (letterBefore received f s (p + o))
     unfolding left above firstClean
     left-found h e = rw (next, lt-ltb 0 o h, test h, e) (ap (Clean (p + o)) (letter-from received f s p o h))
 
@@ -78,12 +80,12 @@ module _ (s : List ℕ) (p n k count : ℕ) (received : Bool) (f : ℕ) where
 
 module _ (k f : ℕ) (s : List ℕ) (at : ℕ) (found : Bool) (looked : found ≡ isPrefix (mark true f (drop 2 (drop at s))) (drop at s)) (two : 2 ≤ k) where
   -- without the marker
-  pub unmarked : found ≡ false → clean k f (drop at s) ≡ false
+  pub unmarked : found ≡ false → clean k f (drop at s) (drop at s) ≡ false
   unfolding clean
   unmarked e = mark-fails true f at s k two (sym looked ∙ e)
 
   -- with the marker the tail decides
-  pub marked : found ≡ true → (t : Tail) → IsTail (take k (drop (at + 2) s)) t → clean k f (drop at s) ≡ isPrefix (tailOf t) (drop (at + (2 + k)) s)
+  pub marked : found ≡ true → (t : Tail) → IsTail (take k (drop (at + 2) s)) t → clean k f (drop at s) (drop at s) ≡ isPrefix (tailOf t) (drop (at + (2 + k)) s)
   unfolding clean
   marked e t tail =
       let q : at + 2 + k ≡ at + (2 + k) = omega arith in
@@ -122,6 +124,16 @@ module _ (s : List ℕ) (t : Tail) (behind : ℕ) (answer : Bool) where
 
       pub compared-stop : (x ≡ getD s (behind + j) 0 → ⊥) → answer ≡ false
       compared-stop e = let l = long in sym (known .rest) ∙ block-stop s behind (tailOf t) j (omega arith) (omega (arith, known .within)) (λ q. e (is ∙ q))
+
+-- The letters of a segment whose symbols are clean
+
+module _ (k f : ℕ) (s letters : List ℕ) (read : s ≡ asSymbols letters) (at n : ℕ) (size-of : n ≡ size true k) (room : at + n ≤ length s) (stands : clean k f (drop at s) (drop at s) ≡ true) where
+  -- they are clean if they are those symbols
+  pub letter-by-letter : (same b : Bool) → same ≡ isPrefix (take (at + n - at) (drop at s)) (drop at letters) → same ≡ b → clean k f (drop at s) (drop at letters) ≡ b
+  letter-by-letter same b looked e =
+      let q : at + n - at ≡ size true k = omega arith in
+      let l : at + size true k ≤ length s = omega arith in
+      clean-but k f s letters read at l stands ∙ (sym (rw q at looked) ∙ e)
 
 -- The numbers
 

@@ -27,46 +27,49 @@ size-room true k h = (omega (arith, width-two k (h .0)), omega (arith, width-lea
 size-room false k h = (omega (arith, width-two k (h .0)), omega (arith, width-least k .least 16 (omega arith)))
 
 -- a start that is found is clean
-pub clean-first : (k : ℕ) (g : ℕ → ℕ) (letters os : List ℕ) (o : ℕ) → firstClean k g letters os ≡ some o → clean k (g o) (drop o letters) ≡ true
+pub clean-first : (k : ℕ) (g : ℕ → ℕ) (s letters os : List ℕ) (o : ℕ) → firstClean k g s letters os ≡ some o → clean k (g o) (drop o s) (drop o letters) ≡ true
 unfolding firstClean
-clean-first k g letters [] o e = absurd (let z : _≡_ {A = ℕ} 0 1 = cc in omega arith)
-clean-first k g letters (x ∷ os) o e = go (clean k (g x) (drop x letters)) refl e (clean-first k g letters os o)
+clean-first k g s letters [] o e = absurd (let z : _≡_ {A = ℕ} 0 1 = cc in omega arith)
+clean-first k g s letters (x ∷ os) o e = go (clean k (g x) (drop x s) (drop x letters)) refl e (clean-first k g s letters os o)
   where
-    go : (b : Bool) → clean k (g x) (drop x letters) ≡ b → cond b (some x) (firstClean k g letters os) ≡ some o → (firstClean k g letters os ≡ some o → clean k (g o) (drop o letters) ≡ true) → clean k (g o) (drop o letters) ≡ true
+    go : (b : Bool) → clean k (g x) (drop x s) (drop x letters) ≡ b → cond b (some x) (firstClean k g s letters os) ≡ some o → (firstClean k g s letters os ≡ some o → clean k (g o) (drop o s) (drop o letters) ≡ true) → clean k (g o) (drop o s) (drop o letters) ≡ true
     go true t e h = let q : x ≡ o = cc in rw (← q) t
     go false t e h = h e
 
-pub clean-inside : (k f : ℕ) (s : List ℕ) (o : ℕ) → clean k f (drop o s) ≡ true → o + size true k ≤ length s
-clean-inside k f s o e = go (decLe (o + size true k) (length s))
+pub clean-inside : (k f : ℕ) (s letters : List ℕ) → length s ≡ length letters → (o : ℕ) → clean k f (drop o s) (drop o letters) ≡ true → o + size true k ≤ length s
+clean-inside k f s letters same o e = go (decLe (o + size true k) (length s))
   where
     go : Dec (o + size true k ≤ length s) → o + size true k ≤ length s
     go (yes l) = l
-    go (no l) = absurd (true≢false (sym e ∙ clean-short k f s o (lt-of-not-le l)))
+    go (no l) = absurd (true≢false (sym e ∙ clean-short k f s letters same o (lt-of-not-le l)))
 
 -- a start that is found is inside
-pub first-inside : (k : ℕ) (g : ℕ → ℕ) (s os : List ℕ) (o : ℕ) → firstClean k g s os ≡ some o → o ≤ length s
-first-inside k g s os o e = omega (arith, clean-inside k (g o) s o (clean-first k g s os o e))
+pub first-inside : (k : ℕ) (g : ℕ → ℕ) (s letters os : List ℕ) → length s ≡ length letters → (o : ℕ) → firstClean k g s letters os ≡ some o → o ≤ length s
+first-inside k g s letters os same o e = omega (arith, clean-inside k (g o) s letters same o (clean-first k g s letters os o e))
 
 -- The answer of a search
 
-module _ (received : Bool) (f k p : ℕ) (os s : List ℕ) where
+module _ (received : Bool) (f k p : ℕ) (os s letters : List ℕ) where
   abbrev g : ℕ → ℕ
   g = letterBefore received f (drop p s)
 
   -- the start that it names
-  pub searched-start : startOf (searched received f k p os s) ≡ startFrom p g (firstClean k g (drop p s) os)
-  searched-start = go (firstClean k g (drop p s) os)
+  pub searched-start : startOf (searched received f k p os s letters) ≡ startFrom p g (firstClean k g (drop p s) (drop p letters) os)
+  searched-start = go (firstClean k g (drop p s) (drop p letters) os)
     where
       go : (x : Option ℕ) → startOf (cleanFrom p g x) ≡ startFrom p g x
       go (some o) = refl
       go none = refl
 
   -- what holds of it
-  pub searched-known : Below 4 s → f < 4 → p ≤ length s → (ks : List ℕ) → Known s (k ∷ ks) (searched received f k p os s)
-  searched-known small symbol inside ks = go (firstClean k g (drop p s) os) refl
+  pub searched-known : Below 4 s → f < 4 → p ≤ length s → length s ≡ length letters → (ks : List ℕ) → Known s letters (k ∷ ks) (searched received f k p os s letters)
+  searched-known small symbol inside same ks = go (firstClean k g (drop p s) (drop p letters) os) refl
     where
-      go : (x : Option ℕ) → firstClean k g (drop p s) os ≡ x → Known s (k ∷ ks) (cleanFrom p g x)
+      from : length (drop p s) ≡ length (drop p letters)
+      from = simp length-drop (omega arith)
+
+      go : (x : Option ℕ) → firstClean k g (drop p s) (drop p letters) os ≡ x → Known s letters (k ∷ ks) (cleanFrom p g x)
       go none e = tt
       go (some o) e =
-          let l = first-inside k g (drop p s) os o e in
-          (record { inside = omega (arith, l, length-drop p s); symbol = letter-below received f (drop p s) (below-drop p s small) symbol o }, rw (← drop-drop o p s) (clean-first k g (drop p s) os o e))
+          let l = first-inside k g (drop p s) (drop p letters) os from o e in
+          (record { inside = omega (arith, l, length-drop p s); symbol = letter-below received f (drop p s) (below-drop p s small) symbol o }, rw (← drop-drop o p s, ← drop-drop o p letters) (clean-first k g (drop p s) (drop p letters) os o e))

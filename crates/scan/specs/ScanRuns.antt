@@ -6,13 +6,14 @@ use Prim.Native.Nat.{ℕ}
 use lib.Dec.{T, eqb}
 use lib.ListN.{take, replicate}
 use Rattle.code.specs.Ascii.{digits}
+use Rattle.code.specs.Symbols.{asSymbols}
 use Rattle.code.specs.Layers.{pair, ones, sumFrom, sumOfPlaces, syndrome, firstPower, width, bits}
 use Rattle.code.specs.Segment.{total, check, sep, syndromeOf, separator, marker, block, segment}
 use Rattle.code.specs.Reading.{isPrefix, clean}
 use Rattle.code.specs.Strands.{above, pairs}
 use Rattle.scan.specs.Scans.{firstClean, letterBefore}
 
--- whether f is the received symbol; f; n; how many starts are tried; the symbols from P on; and the start, 0 for none
+-- whether f is the received symbol; f; n; how many starts are tried; the letters from P on; and the start, 0 for none
 pub data Run : Type 0 where
   gives : Bool → ℕ → ℕ → ℕ → List ℕ → ℕ → Run
 
@@ -22,7 +23,9 @@ numberOf (some o) = o
 numberOf none = 0
 
 unfoldable pub right : Run → Bool
-right (gives received f n count s start) = eqb (numberOf (firstClean 2 (letterBefore received f s) s (above (take count (n ∷ pairs n 1 8))))) start
+right (gives received f n count letters start) =
+    let s = asSymbols letters in
+    eqb (numberOf (firstClean 2 (letterBefore received f s) s letters (above (take count (n ∷ pairs n 1 8))))) start
 
 -- eight symbols 0, the marker 2 2, the message, and what stands behind it
 abbrev pub strand : List ℕ → List ℕ
@@ -45,6 +48,11 @@ runs =
     ∷ gives true 3 8 17 (strand (digits "000000")) 0
     ∷ gives true 3 8 17 (strand (digits "022201")) 0
     ∷ gives true 3 8 17 (strand (digits "02220")) 0
+    -- an N in the place of the message's last A, of the check, of the syndrome's last A; one before the segment, f being A
+    ∷ gives true 3 8 17 (replicate 8 0 ++ digits "2204022200") 0
+    ∷ gives true 3 8 17 (strand (digits "422200")) 0
+    ∷ gives true 3 8 17 (strand (digits "022204")) 0
+    ∷ gives true 3 8 17 (digits "000000042200022200") 8
     -- P itself is no start
     ∷ gives true 3 8 17 (digits "2200022200") 0
     ∷ []
@@ -55,5 +63,5 @@ all (r ∷ rs) = right r && all rs
 
 pub runs-right : T (all runs)
 unfolding right firstClean letterBefore above pairs clean isPrefix segment block marker separator syndromeOf sep check total pair bits width
-    firstPower syndrome sumOfPlaces sumFrom ones
+    firstPower syndrome sumOfPlaces sumFrom ones asSymbols
 runs-right = tt

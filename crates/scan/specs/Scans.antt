@@ -18,9 +18,9 @@ use Rattle.scan.specs.declared.Next.{Next}
 use Rattle.scan.specs.declared.Next.the-variants.{At, Clean, Nowhere}
 
 -- the first start o of a list where a clean segment of k message symbols stands, g o being the symbol before it
-unfoldable pub firstClean : ℕ → (ℕ → ℕ) → List ℕ → List ℕ → Option ℕ
-firstClean k g letters [] = none
-firstClean k g letters (o ∷ os) = cond (clean k (g o) (drop o letters)) (some o) (firstClean k g letters os)
+unfoldable pub firstClean : ℕ → (ℕ → ℕ) → List ℕ → List ℕ → List ℕ → Option ℕ
+firstClean k g s letters [] = none
+firstClean k g s letters (o ∷ os) = cond (clean k (g o) (drop o s) (drop o letters)) (some o) (firstClean k g s letters os)
 
 -- the symbol before the start o: the received one, or f
 unfoldable pub letterBefore : Bool → ℕ → List ℕ → ℕ → ℕ
@@ -32,8 +32,9 @@ cleanFrom p g (some o) = Clean (p + o) (g o)
 cleanFrom p g none = Nowhere
 
 -- the first of the starts os, counted from p, where a clean segment of k message symbols stands
-abbrev pub searched : Bool → ℕ → ℕ → ℕ → List ℕ → List ℕ → Next
-searched received f k p os s = let g = letterBefore received f (drop p s) in cleanFrom p g (firstClean k g (drop p s) os)
+abbrev pub searched : Bool → ℕ → ℕ → ℕ → List ℕ → List ℕ → List ℕ → Next
+searched received f k p os s letters =
+    let g = letterBefore received f (drop p s) in cleanFrom p g (firstClean k g (drop p s) (drop p letters) os)
 
 -- the start that an answer names, and the symbol before it
 abbrev pub startOf : Next → Option (ℕ × ℕ)
@@ -53,12 +54,12 @@ nextPlace (Clean p f) n = p
 nextPlace Nowhere n = n
 
 -- a clean segment stands at the front, of the first of the lengths ks
-abbrev pub FirstClean : List ℕ → ℕ → List ℕ → Type 0
-FirstClean [] f letters = ⊥
-FirstClean (k ∷ ks) f letters = clean k f letters ≡ true
+abbrev pub FirstClean : List ℕ → ℕ → List ℕ → List ℕ → Type 0
+FirstClean [] f s letters = ⊥
+FirstClean (k ∷ ks) f s letters = clean k f s letters ≡ true
 
 -- the start lies inside the received symbols s, and where the answer says so, a clean segment of the first of the lengths ks stands there
-abbrev pub Known : List ℕ → List ℕ → Next → Type 0
-Known s ks (At p f) = Start s p f
-Known s ks (Clean p f) = Start s p f × FirstClean ks f (drop p s)
-Known s ks Nowhere = Unit {0}
+abbrev pub Known : List ℕ → List ℕ → List ℕ → Next → Type 0
+Known s letters ks (At p f) = Start s p f
+Known s letters ks (Clean p f) = Start s p f × FirstClean ks f (drop p s) (drop p letters)
+Known s letters ks Nowhere = Unit {0}

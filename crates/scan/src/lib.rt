@@ -1,5 +1,6 @@
 // The search for a clean segment about a place.
 use clean::marker_stands;
+use places::comparisons::stands_at;
 use places::offsets::moved_by;
 use segment::size_of;
 use tail::symbol_in;
@@ -8,6 +9,7 @@ ghost use mathlib.Core.Path.{_≡_};
 ghost use mathlib.Core.List.{_∷_};
 ghost use Prim.Native.Nat.{_<_, _≤_};
 ghost use lib.ListN.{length, take};
+ghost use Rattle.code.specs.Symbols.{asSymbols};
 ghost use Rattle.code.specs.Limits.{mostLetters};
 ghost use Rattle.code.specs.Bounds.{farthest, mostMoves, Length, Received};
 ghost use Rattle.code.specs.Strands.{above, pairs};
@@ -42,9 +44,11 @@ fn letter_before(s: &[u8], at: usize, received: bool, f: u8) -> u8
     f
 }
 
-// The first of `count` starts about p + n where a clean segment of k message symbols stands. f is the received symbol before the start, or the given one.
+// The first of `count` starts about p + n where a clean segment of k message symbols stands: in the symbols s, and letter for letter. f is the
+// received symbol before the start, or the given one.
 pub fn find_clean(
     s: &[u8],
+    letters: &[u8],
     p: usize,
     n: usize,
     k: usize,
@@ -54,8 +58,8 @@ pub fn find_clean(
 ) -> Next
     requires { ⌜ Received (now s) ⌝ }
     requires { ⌜ (p ≤ length (now s)) × (farthest ≤ n) × (n ≤ mostLetters) ⌝ }
-    requires { ⌜ Length k × (count ≤ mostMoves) × (f < 4) ⌝ }
-    ensures { λ r. ⌜ r ≡ searched received f k p (above (take count (n ∷ pairs n 1 8))) (now (s .entry)) ⌝ }
+    requires { ⌜ Length k × (count ≤ mostMoves) × (f < 4) × (now s ≡ asSymbols (now letters)) ⌝ }
+    ensures { λ r. ⌜ r ≡ searched received f k p (above (take count (n ∷ pairs n 1 8))) (now (s .entry)) (now (letters .entry)) ⌝ }
 {
     let size = size_of(true, k);
     let mut tried: usize = 0;
@@ -85,6 +89,9 @@ pub fn find_clean(
                 continue 'starts;
             }
             j += 1;
+        }
+        if !stands_at(&s[at..at + size], letters, at) {
+            continue 'starts;
         }
         break Next::Clean(at, before);
     }

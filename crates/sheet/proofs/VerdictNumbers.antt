@@ -3,8 +3,9 @@
 --   mask-kind     the kind of a number
 --   mask-symbol   its symbol
 --   bit-below     a condition as a number is 0 or 1
+--   bits-fit      the sum of two such numbers is a byte
 --   kind-mark     the mark of a kind, as a sum
---   kind-rest     the kinds from 5 on
+--   kind-rest     the kinds from 6 on
 use mathlib.Core.Path.{_≡_, refl, _∙_}
 use mathlib.Core.Bool.{Bool, true, false}
 use Prim.Native.Nat.{ℕ, zero, suc, _+_, _*_, _%_, _<_, _≤_}
@@ -12,7 +13,8 @@ use native.Mathlib.Omega.{arith}
 use borrow.Author.Tests.{lt-ltb}
 use lib.Bits.{bitAnd, bitOr, and-mask, or-shifted-r}
 use lib.Dec.{ltb}
-use mir.Val.{boolByte}
+use mir.Syntax.{w8}
+use mir.Val.{boolByte, Fits}
 use Rattle.code.specs.declared.Verdict.the-variants.{NoStart}
 use Rattle.code.specs.Bounds.{reach}
 use Rattle.code.specs.Verdicts.{numbered, verdictOfKind}
@@ -38,21 +40,26 @@ pub bit-below : (b : Bool) → boolByte b < 2
 bit-below true = omega arith
 bit-below false = omega arith
 
+pub bits-fit : (a b : Bool) → Fits w8 (boolByte a + boolByte b)
+bits-fit a b = omega (arith, bit-below a, bit-below b)
+
 -- the mark of a kind, as a sum
-pub kind-mark : (kind x i : ℕ) → boolByte (ltb 0 kind) + boolByte (ltb 3 kind) ≡ markOf (verdictOfKind kind x i)
+pub kind-mark : (kind x i : ℕ) → boolByte (ltb 0 kind) + boolByte (ltb 4 kind) ≡ markOf (verdictOfKind kind x i)
 kind-mark zero x i = refl
 kind-mark (suc zero) x i = refl
 kind-mark (suc (suc zero)) x i = refl
 kind-mark (suc (suc (suc zero))) x i = refl
 kind-mark (suc (suc (suc (suc zero)))) x i = refl
-kind-mark (suc (suc (suc (suc (suc kind))))) x i =
-    rw (lt-ltb 0 (suc (suc (suc (suc (suc kind))))) (omega arith), lt-ltb 3 (suc (suc (suc (suc (suc kind))))) (omega arith))
+kind-mark (suc (suc (suc (suc (suc zero))))) x i = refl
+kind-mark (suc (suc (suc (suc (suc (suc kind)))))) x i =
+    rw (lt-ltb 0 (suc (suc (suc (suc (suc (suc kind)))))) (omega arith), lt-ltb 4 (suc (suc (suc (suc (suc (suc kind)))))) (omega arith))
 
--- the kinds from 5 on
-pub kind-rest : (kind x i : ℕ) → 5 ≤ kind → NoStart ≡ verdictOfKind kind x i
+-- the kinds from 6 on
+pub kind-rest : (kind x i : ℕ) → 6 ≤ kind → NoStart ≡ verdictOfKind kind x i
 kind-rest zero x i h = absurd (omega arith)
 kind-rest (suc zero) x i h = absurd (omega arith)
 kind-rest (suc (suc zero)) x i h = absurd (omega arith)
 kind-rest (suc (suc (suc zero))) x i h = absurd (omega arith)
 kind-rest (suc (suc (suc (suc zero)))) x i h = absurd (omega arith)
-kind-rest (suc (suc (suc (suc (suc kind))))) x i h = refl
+kind-rest (suc (suc (suc (suc (suc zero))))) x i h = absurd (omega arith)
+kind-rest (suc (suc (suc (suc (suc (suc kind)))))) x i h = refl

@@ -28,12 +28,13 @@ pub fn number_of(v: Verdict) -> u32
     match v {
         Verdict::Read(e) => match e {
             Edit::None => 0,
-            Edit::Sub(i, x) => joined(1, x, i),
-            Edit::Del(i, x) => joined(2, x, i),
-            Edit::Ins(i, x) => joined(3, x, i),
+            Edit::Sub(i, x) => joined(2, x, i),
+            Edit::Del(i, x) => joined(3, x, i),
+            Edit::Ins(i, x) => joined(4, x, i),
         },
-        Verdict::Lost(step) => joined(4, step, 0),
-        Verdict::NoStart => 5,
+        Verdict::Unknown => 1,
+        Verdict::Lost(step) => joined(5, step, 0),
+        Verdict::NoStart => 6,
     }
 }
 
@@ -46,20 +47,21 @@ pub fn verdict_of(n: u32) -> Verdict
     let i = (n >> 7) as usize;
     match kind {
         0 => Verdict::Read(Edit::None),
-        1 => Verdict::Read(Edit::Sub(i, x)),
-        2 => Verdict::Read(Edit::Del(i, x)),
-        3 => Verdict::Read(Edit::Ins(i, x)),
-        4 => Verdict::Lost(x),
+        1 => Verdict::Unknown,
+        2 => Verdict::Read(Edit::Sub(i, x)),
+        3 => Verdict::Read(Edit::Del(i, x)),
+        4 => Verdict::Read(Edit::Ins(i, x)),
+        5 => Verdict::Lost(x),
         _ => Verdict::NoStart,
     }
 }
 
-// The mark of a number's verdict: 0 for no edit, 1 for an edit, 2 for a lost segment; a sum, so that many are formed at once.
+// The mark of a number's verdict: 0 for no edit, 1 for an edit or an N, 2 for a lost segment; a sum, so that many are formed at once.
 fn mark_of(n: u32) -> u8
     ensures { λ r. ⌜ r ≡ markOf (verdictOf n) ⌝ }
 {
     let kind = n & 7;
-    (0 < kind) as u8 + (3 < kind) as u8
+    (0 < kind) as u8 + (4 < kind) as u8
 }
 
 // The marks of verdicts.

@@ -40,16 +40,16 @@ some-start p l (some o) y e =
     let i : o ≡ y .0 - p = omega arith in
     (ap some i, omega arith, ap (λ (x : ℕ × ℕ). x .1) q)
 
-module _ (marked : Bool) (m ks : List ℕ) (p : ℕ) (s : List ℕ) where
+module _ (marked : Bool) (m ks : List ℕ) (p : ℕ) (s letters : List ℕ) where
   abbrev end : Option ℕ
-  end = endOf marked (length m) ks (drop p s) (drop p s) m
+  end = endOf marked (length m) ks (drop p s) (drop p letters) m
 
   -- there is no end
-  pub end-nowhere : (r : Next) → IsEnd marked m ks p s r → r ≡ Nowhere → end ≡ none
-  end-nowhere r is e = no-start p (lastOf m) end (subst (IsEnd marked m ks p s) e is .0)
+  pub end-nowhere : (r : Next) → IsEnd marked m ks p s letters r → r ≡ Nowhere → end ≡ none
+  end-nowhere r is e = no-start p (lastOf m) end (subst (IsEnd marked m ks p s letters) e is .0)
 
   -- there is one
-  pub end-known : readMessage marked (length m) (drop p s) ≡ message m → (r : Next) → IsEnd marked m ks p s r → OneOf (0 ∷ 1 ∷ []) (tagOf the-type r) → (n at : ℕ) → at ≡ nextPlace r n → Ended marked p s ks m r at
+  pub end-known : readMessage marked (length m) (drop p s) ≡ message m → (r : Next) → IsEnd marked m ks p s letters r → OneOf (0 ∷ 1 ∷ []) (tagOf the-type r) → (n at : ℕ) → at ≡ nextPlace r n → Ended marked p s letters ks m r at
   end-known g (At e f) is h n at q =
       let x = some-start p (lastOf m) end (e, f) (is .0) in
       record { is-read-message = g; ends = rw q (x .0); behind = omega (arith, x .1, q); inside = omega (arith, is .1 .inside, q); next-is = λ i. some (sym q i, x .2 i); known = is .1 }

@@ -12,7 +12,8 @@ use Prim.Native.Nat.{ℕ, _+_, _-_, _≤_}
 use native.Mathlib.Omega.{arith}
 use lib.ListN.{length, getD, take, drop, length-drop, length-append}
 use lib.Seq.{drop-drop, take-at, getD-take, getD-drop, length-take-le}
-use Rattle.code.specs.Symbols.{Below}
+use Rattle.code.specs.Symbols.{Below, asSymbols}
+use Rattle.code.specs.laws.Letters.{length-as}
 use Rattle.code.specs.Layers.{width}
 use Rattle.code.specs.Segment.{check, separator, syndromeOf, block, segment, lastOf, size, dataAt}
 use Rattle.code.specs.laws.Below.{below-take, below-drop}
@@ -29,6 +30,7 @@ use Rattle.tail.proofs.Tails.{marked-block}
 use Rattle.message.specs.declared.MessageResult.the-variants.{Message}
 use Rattle.message.specs.MessageAnswers.{IsMessageResult}
 use Rattle.clean.proofs.Segment.{size-data}
+use Rattle.scan.specs.laws.Scans.{clean-in-symbols}
 use Rattle.scan.proofs.Starts.{clean-inside}
 use Rattle.steps.specs.Steps.{stepAt, standingAnswer, IsStep}
 use Rattle.steps.proofs.Answers.{gives-read}
@@ -38,8 +40,8 @@ module _ (marked : Bool) (f k : ℕ) (S m r : List ℕ) (whole : S ≡ segment m
   pub known-read-message : readMessage marked k S ≡ message m
   known-read-message = rw (whole, ← long) (clean-read-message marked f m r (omega arith) small)
 
-  pub known-read : (ks : List ℕ) → Final ks r → readSegment marked f k ks S S ≡ R.SegmentResult.read m None (size marked k)
-  known-read ks last = rw (whole, ← long) (clean-read marked f m r ks (omega arith) small last)
+  pub known-read : (ks letters : List ℕ) → Final ks r → length letters ≡ length S → readSegment marked f k ks S letters ≡ R.SegmentResult.read m None (size marked k)
+  known-read ks letters last same = rw (whole, ← long) (clean-read marked f m r ks letters (omega arith) small last (same ∙ ap length whole))
 
 no-more : (r : List ℕ) → length r ≡ 0 → r ≡ []
 no-more [] e = refl
@@ -111,10 +113,10 @@ module _ (marked : Bool) (f k p d : ℕ) (s : List ℕ) (two : 2 ≤ k) (small :
       rw n (sym (getD-drop (d + k + 4) s (width k - 1) 0) ∙ (sym (getD-take (width k) (drop (d + k + 4) s) (width k - 1) 0 (omega arith)) ∙ (ap (λ (l : List ℕ). getD l (width k - 1) 0) M-syndrome ∙ ap (λ (i : ℕ). getD (syndromeOf M) (width i - 1) 0) (sym M-long))))
 
   -- another follows it, or nothing
-  pub stands-step : (ks : List ℕ) → (ks ≡ [] → d + k + (4 + width k) ≡ length s) → (out : List ℕ) → out ≡ M → IsStep (stepAt marked f k ks p s) s ks out (standingAnswer k d s)
-  stands-step ks ends out e =
+  pub stands-step : (letters : List ℕ) → length s ≡ length letters → (ks : List ℕ) → (ks ≡ [] → d + k + (4 + width k) ≡ length s) → (out : List ℕ) → out ≡ M → IsStep (stepAt marked f k ks p s letters) s letters ks out (standingAnswer k d s)
+  stands-step letters same ks ends out e =
       let end = d + k + (4 + width k) in
-      gives-read marked f k ks p s M out None (size marked k) end (standingAnswer k d s) (known-read marked f k S M rest M-whole M-long two M-small ks (fin ks ends)) e refl (ap (λ (x : ℕ). some (end, x)) M-last) (omega (arith, size-data marked k)) (record { inside = M-inside; symbol = small (end - 1) })
+      gives-read marked f k ks p s letters M out None (size marked k) end (standingAnswer k d s) (known-read marked f k S M rest M-whole M-long two M-small ks (drop p letters) (fin ks ends) (simp length-drop (omega arith))) e refl (ap (λ (x : ℕ). some (end, x)) M-last) (omega (arith, size-data marked k)) (record { inside = M-inside; symbol = small (end - 1) })
     where
       fin : (ks : List ℕ) → (ks ≡ [] → d + k + (4 + width k) ≡ length s) → Final ks rest
       fin [] h q = no-more rest (simp length-drop (omega (arith, h refl, M-size)))
@@ -128,6 +130,8 @@ module _ (marked : Bool) (f k p d : ℕ) (s : List ℕ) (two : 2 ≤ k) (small :
       subst (λ (x : R.MessageResult). IsMessageResult x out (Message t)) (sym g) (refl, h, subst (Below 4) (sym e) M-small)
 
 -- a segment that is known to be clean stands
-pub clean-stands : (k f p : ℕ) (s : List ℕ) → R.clean k f (drop p s) ≡ true → (isPrefix (segment true f (take k (drop 2 (drop p s)))) (drop p s) ≡ true) × (p + 2 + k ≤ length s)
+pub clean-stands : (k f p : ℕ) (s letters : List ℕ) → s ≡ asSymbols letters → R.clean k f (drop p s) (drop p letters) ≡ true → (isPrefix (segment true f (take k (drop 2 (drop p s)))) (drop p s) ≡ true) × (p + 2 + k ≤ length s)
 unfolding R.clean
-clean-stands k f p s e = (e, omega (arith, clean-inside k f s p e, size-data true k))
+clean-stands k f p s letters read e =
+    let same : length s ≡ length letters = ap length read ∙ length-as letters in
+    (clean-in-symbols k f s letters read p e, omega (arith, clean-inside k f s letters same p e, size-data true k))

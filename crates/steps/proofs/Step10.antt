@@ -18,27 +18,30 @@ use Rattle.scan.specs.laws.Scans.{scan-first}
 use Rattle.scan.proofs.Starts.{searched-start, searched-known}
 use Rattle.steps.specs.Steps.{afterLost, lostAt}
 
-module _ (marked : Bool) (k p : ℕ) (s : List ℕ) where
+module _ (marked : Bool) (k p : ℕ) (s letters : List ℕ) where
   abbrev S : List ℕ
   S = drop p s
 
+  abbrev L : List ℕ
+  L = drop p letters
+
   -- nothing is found behind the last segment
-  pub none-behind : (ks : List ℕ) → length ks ≡ 0 → (startOf Nowhere ≡ lostAt marked k ks p s 0 .next) × Known s ks Nowhere
+  pub none-behind : (ks : List ℕ) → length ks ≡ 0 → (startOf Nowhere ≡ lostAt marked k ks p s letters 0 .next) × Known s letters ks Nowhere
   unfolding scan
   none-behind [] e = (refl, tt)
   none-behind (x ∷ ks) e = absurd (omega arith)
 
-  lost-next : (x : Option ℕ) → startFrom p (letterBefore true 0 S) x ≡ afterLost k p s 0 x .next
+  lost-next : (x : Option ℕ) → startFrom p (letterBefore true 0 S) x ≡ afterLost k p s letters 0 x .next
   unfolding letterBefore
   lost-next (some o) = refl
   lost-next none = refl
 
   -- the search for the first of the lengths is that of step 10
-  pub scan-is : (ks : List ℕ) → 0 < length ks → Received s → p ≤ length s → (n : ℕ) → n ≡ size marked k → (r : Next) → r ≡ searched true 0 (getD ks 0 0) p (above (take 17 (n ∷ pairs n 1 8))) s → (startOf r ≡ lostAt marked k ks p s 0 .next) × Known s ks r
-  scan-is [] l h inside n e r q = absurd (omega arith)
-  scan-is (x ∷ ks) l h inside n e r q =
+  pub scan-is : (ks : List ℕ) → 0 < length ks → Received s → p ≤ length s → length s ≡ length letters → (n : ℕ) → n ≡ size marked k → (r : Next) → r ≡ searched true 0 (getD ks 0 0) p (above (take 17 (n ∷ pairs n 1 8))) s letters → (startOf r ≡ lostAt marked k ks p s letters 0 .next) × Known s letters ks r
+  scan-is [] l h inside long n e r q = absurd (omega arith)
+  scan-is (x ∷ ks) l h inside long n e r q =
       let os = above (take 17 (n ∷ pairs n 1 8)) in
-      let same : scan (size marked k) (x ∷ ks) S S ≡ firstClean x (letterBefore true 0 S) S os = ap (λ (i : ℕ). scan i (x ∷ ks) S S) (sym e) ∙ scan-first n x 0 ks S S in (
-        ap startOf q ∙ (searched-start true 0 x p os s ∙ (ap (startFrom p (letterBefore true 0 S)) (sym same) ∙ lost-next (scan (size marked k) (x ∷ ks) S S))),
-        subst (Known s (x ∷ ks)) (sym q) (searched-known true 0 x p os s (h .symbols) (omega arith) inside ks),
+      let same : scan (size marked k) (x ∷ ks) S L ≡ firstClean x (letterBefore true 0 S) S L os = ap (λ (i : ℕ). scan i (x ∷ ks) S L) (sym e) ∙ scan-first n x 0 ks S L in (
+        ap startOf q ∙ (searched-start true 0 x p os s letters ∙ (ap (startFrom p (letterBefore true 0 S)) (sym same) ∙ lost-next (scan (size marked k) (x ∷ ks) S L))),
+        subst (Known s letters (x ∷ ks)) (sym q) (searched-known true 0 x p os s letters (h .symbols) (omega arith) inside long ks),
       )

@@ -69,35 +69,39 @@ module _ (s m : List ℕ) (p : ℕ) (marked : Bool) (two : 2 ≤ length m) (insi
       let q : drop (p + dataAt marked) s ≡ drop (dataAt marked) S = sym (drop-drop (dataAt marked) p s) in
       f ∙ syndrome-seen (shiftOf j) (length m) (p + dataAt marked) s m t at i e ∙ rw (h, q)
 
-  -- the last segment ends with the strand
-  pub end-last : (ks : List ℕ) → length ks ≡ 0 → (f : ℕ) → f ≡ lastOf m → IsEnd marked m ks p s (At (length s) f)
-  unfolding endOf
-  end-last [] e f l =
-      let q : length s ≡ p + length S = simp length-drop (omega arith) in
-      ((λ i. some (q i, l i)), record { inside = omega arith; symbol = omega (arith, l, last-below m) })
-  end-last (k ∷ ks) e f l = absurd (omega arith)
+  module _ (letters : List ℕ) (same : length s ≡ length letters) where
+    abbrev L : List ℕ
+    L = drop p letters
 
-  -- one whose syndrome was seen ends behind it
-  pub end-settled : (ks : List ℕ) → 0 < length ks → (j : ℕ) → sep ≡ some (shiftOf j) → seen ≡ true → (n w f : ℕ) → n ≡ p + dataAt marked + (moved (shiftOf j) (length m + 1) + 3) → w ≡ width (length m) → f ≡ lastOf m → IsEnd marked m ks p s (At (n + w) f)
-  unfolding endOf
-  end-settled [] l j h e n w f g i o = absurd (omega arith)
-  end-settled (k ∷ ks) l j h e n w f g i o =
-      let q : n + w ≡ p + (dataAt marked + (moved (shiftOf j) (length m + 1) + 3 + width (length m))) = omega arith in
-      let r = settled-inside marked S m two sep e in
-      let v : dataAt marked + (moved (shiftOf j) (length m + 1) + 3 + width (length m)) ≤ length S = rw h at r in
-      (rw (e, h) (λ y. some (q y, o y)), record { inside = omega (arith, q, v, length-drop p s); symbol = omega (arith, o, last-below m) })
+    -- the last segment ends with the strand
+    pub end-last : (ks : List ℕ) → length ks ≡ 0 → (f : ℕ) → f ≡ lastOf m → IsEnd marked m ks p s letters (At (length s) f)
+    unfolding endOf
+    end-last [] e f l =
+        let q : length s ≡ p + length (drop p letters) = simp length-drop (omega arith) in
+        ((λ i. some (q i, l i)), record { inside = omega arith; symbol = omega (arith, l, last-below m) })
+    end-last (k ∷ ks) e f l = absurd (omega arith)
 
-  -- another ends where a clean one starts
-  pub end-around : (ks : List ℕ) → 0 < length ks → Received s → seen ≡ false → (n f : ℕ) (r : Next) → n ≡ size marked (length m) → f ≡ lastOf m → 1 < n → r ≡ searched false f (getD ks 0 0) p (above (take 3 (n ∷ pairs n 1 8))) s → IsEnd marked m ks p s r
-  unfolding endOf letterBefore
-  end-around [] l h e n f r g i o q = absurd (omega arith)
-  end-around (k ∷ ks) l h e n f r g i o q =
-      let os = above (take 3 (n ∷ pairs n 1 8)) in
-      let x = firstClean k (letterBefore false f S) S os in
-      let same : x ≡ around n (firstShift (λ e. clean k f (drop (moved e n) S))) = around-first n k f S S o in
-      let same′ : x ≡ endOf marked (length m) (k ∷ ks) S S m = same ∙ rw (e, ← i, ← g) in
-      (ap startOf q ∙ (searched-start false f k p os s ∙ (named x ∙ ap (startFrom p (λ o. lastOf m)) same′)), subst (Known s (k ∷ ks)) (sym q) (searched-known false f k p os s (h .symbols) (omega (arith, i, last-below m)) inside ks))
-    where
-      named : (x : Option ℕ) → startFrom p (letterBefore false f S) x ≡ startFrom p (λ o. lastOf m) x
-      named (some o) = ap (λ (y : ℕ). some (p + o, y)) i
-      named none = refl
+    -- one whose syndrome was seen ends behind it
+    pub end-settled : (ks : List ℕ) → 0 < length ks → (j : ℕ) → sep ≡ some (shiftOf j) → seen ≡ true → (n w f : ℕ) → n ≡ p + dataAt marked + (moved (shiftOf j) (length m + 1) + 3) → w ≡ width (length m) → f ≡ lastOf m → IsEnd marked m ks p s letters (At (n + w) f)
+    unfolding endOf
+    end-settled [] l j h e n w f g i o = absurd (omega arith)
+    end-settled (k ∷ ks) l j h e n w f g i o =
+        let q : n + w ≡ p + (dataAt marked + (moved (shiftOf j) (length m + 1) + 3 + width (length m))) = omega arith in
+        let r = settled-inside marked S m two sep e in
+        let v : dataAt marked + (moved (shiftOf j) (length m + 1) + 3 + width (length m)) ≤ length S = rw h at r in
+        (rw (e, h) (λ y. some (q y, o y)), record { inside = omega (arith, q, v, length-drop p s); symbol = omega (arith, o, last-below m) })
+
+    -- another ends where a clean one starts
+    pub end-around : (ks : List ℕ) → 0 < length ks → Received s → seen ≡ false → (n f : ℕ) (r : Next) → n ≡ size marked (length m) → f ≡ lastOf m → 1 < n → r ≡ searched false f (getD ks 0 0) p (above (take 3 (n ∷ pairs n 1 8))) s letters → IsEnd marked m ks p s letters r
+    unfolding endOf letterBefore
+    end-around [] l h e n f r g i o q = absurd (omega arith)
+    end-around (k ∷ ks) l h e n f r g i o q =
+        let os = above (take 3 (n ∷ pairs n 1 8)) in
+        let x = firstClean k (letterBefore false f S) S L os in
+        let found : x ≡ around n (firstShift (λ e. clean k f (drop (moved e n) S) (drop (moved e n) L))) = around-first n k f S L o in
+        let found′ : x ≡ endOf marked (length m) (k ∷ ks) S L m = found ∙ rw (e, ← i, ← g) in
+        (ap startOf q ∙ (searched-start false f k p os s letters ∙ (named x ∙ ap (startFrom p (λ o. lastOf m)) found′)), subst (Known s letters (k ∷ ks)) (sym q) (searched-known false f k p os s letters (h .symbols) (omega (arith, i, last-below m)) inside same ks))
+      where
+        named : (x : Option ℕ) → startFrom p (letterBefore false f S) x ≡ startFrom p (λ o. lastOf m) x
+        named (some o) = ap (λ (y : ℕ). some (p + o, y)) i
+        named none = refl

@@ -45,12 +45,12 @@ pub record Named (x : Option Edit) (v : Verdict) : Type 0 where
   pub is : x ≡ some edit
   pub verdict : v ≡ Read edit
 
-pub named : (x : Option Edit) (v : Verdict) → v ≡ judgedAs x → OneOf (0 ∷ 2 ∷ []) (tagOf the-type v) → Named x v
+pub named : (x : Option Edit) (v : Verdict) → v ≡ judgedAs x → OneOf (0 ∷ 1 ∷ 3 ∷ []) (tagOf the-type v) → Named x v
 named (some e) v q h = record { edit = e; is = refl; verdict = q }
-named none v q h = absurd (go (subst (λ (w : Verdict). OneOf (0 ∷ 2 ∷ []) (tagOf the-type w)) q h))
+named none v q h = absurd (go (subst (λ (w : Verdict). OneOf (0 ∷ 1 ∷ 3 ∷ []) (tagOf the-type w)) q h))
   where
-    go : OneOf (0 ∷ 2 ∷ []) (tagOf the-type (Lost 9)) → ⊥
-    go h = ⊎-elim (λ e. omega arith) (λ e. omega arith) h
+    go : OneOf (0 ∷ 1 ∷ 3 ∷ []) (tagOf the-type (Lost 9)) → ⊥
+    go h = ⊎-elim (λ e. omega arith) (⊎-elim (λ e. omega arith) (λ e. omega arith)) h
 
 -- a verdict that loses is that of more than one edit
 pub lost-named : (x : Option Edit) (v : Verdict) (step : ℕ) → v ≡ judgedAs x → v ≡ Lost step → (x ≡ none) × (step ≡ 9)

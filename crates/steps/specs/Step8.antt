@@ -23,9 +23,9 @@ abbrev pub settledAt : Bool → List ℕ → ℕ → List ℕ → Bool
 settledAt marked m p s = settled (length m) (drop (dataAt marked) (drop p s)) m (separatorIn marked (length m) p s)
 
 -- where the segment of the message m at p ends, with its last symbol; ks are the lengths behind it
-abbrev pub endFrom : Bool → List ℕ → List ℕ → ℕ → List ℕ → Option (ℕ × ℕ)
-endFrom marked m ks p s = startFrom p (λ o. lastOf m) (endOf marked (length m) ks (drop p s) (drop p s) m)
+abbrev pub endFrom : Bool → List ℕ → List ℕ → ℕ → List ℕ → List ℕ → Option (ℕ × ℕ)
+endFrom marked m ks p s letters = startFrom p (λ o. lastOf m) (endOf marked (length m) ks (drop p s) (drop p letters) m)
 
 -- r names that end
-abbrev pub IsEnd : Bool → List ℕ → List ℕ → ℕ → List ℕ → Next → Type 0
-IsEnd marked m ks p s r = (startOf r ≡ endFrom marked m ks p s) × Known s ks r
+abbrev pub IsEnd : Bool → List ℕ → List ℕ → ℕ → List ℕ → List ℕ → Next → Type 0
+IsEnd marked m ks p s letters r = (startOf r ≡ endFrom marked m ks p s letters) × Known s letters ks r

@@ -24,7 +24,8 @@ use Rattle.code.specs.Segment.{lastOf, size}
 use Rattle.code.specs.Layout.{Lengths}
 use Rattle.code.specs.Reading as R
 use Rattle.code.specs.Reading.{message, readSegment}
-use Rattle.code.specs.Strands.{Outcome, lostOutcome, unfound, scan, reading}
+use Rattle.code.specs.Symbols.{asSymbols}
+use Rattle.code.specs.Strands.{told, Outcome, lostOutcome, unfound, scan, reading}
 use Rattle.code.specs.declared.Edit.the-variants.{None}
 use Rattle.code.specs.declared.Verdict.the-variants.{Read, Lost}
 use Rattle.scan.specs.declared.Next.{Next}
@@ -38,38 +39,40 @@ pub record Step : Type 0 where
   pub next : Option (ℕ × ℕ)
 
 -- a segment of k message symbols at p was lost, and the scan found o, or nothing
-abbrev pub afterLost : ℕ → ℕ → List ℕ → ℕ → Option ℕ → Step
-afterLost k p s step (some o) =
-    record { outcome = lostOutcome (take o (drop p s)) k (Lost step); next = some (p + o, getD (drop p s) (o - 1) 0) }
-afterLost k p s step none = record { outcome = lostOutcome (drop p s) k (Lost step); next = none }
+abbrev pub afterLost : ℕ → ℕ → List ℕ → List ℕ → ℕ → Option ℕ → Step
+afterLost k p s letters step (some o) =
+    record { outcome = lostOutcome (take o (drop p letters)) k (Lost step); next = some (p + o, getD (drop p s) (o - 1) 0) }
+afterLost k p s letters step none = record { outcome = lostOutcome (drop p letters) k (Lost step); next = none }
 
 -- the step of a segment of k message symbols at p that a step loses; ks are the lengths behind it
-abbrev pub lostAt : Bool → ℕ → List ℕ → ℕ → List ℕ → ℕ → Step
-lostAt marked k ks p s step = afterLost k p s step (scan (size marked k) ks (drop p s) (drop p s))
+abbrev pub lostAt : Bool → ℕ → List ℕ → ℕ → List ℕ → List ℕ → ℕ → Step
+lostAt marked k ks p s letters step = afterLost k p s letters step (scan (size marked k) ks (drop p s) (drop p letters))
 
 -- a segment of k message symbols at p was read or lost; ks are the lengths behind it
-abbrev pub afterOne : Bool → ℕ → List ℕ → ℕ → List ℕ → R.SegmentResult → Step
-afterOne marked k ks p s (R.SegmentResult.read m e o) =
-    record { outcome = record { piece = take o (drop p s); message = m; verdict = Read e }; next = some (p + o, lastOf m) }
-afterOne marked k ks p s (R.SegmentResult.lost step) = lostAt marked k ks p s step
+abbrev pub afterOne : Bool → ℕ → List ℕ → ℕ → List ℕ → List ℕ → R.SegmentResult → Step
+afterOne marked k ks p s letters (R.SegmentResult.read m e o) =
+    let piece = take o (drop p letters) in
+    record { outcome = record { piece = piece; message = m; verdict = told (Read e) piece }; next = some (p + o, lastOf m) }
+afterOne marked k ks p s letters (R.SegmentResult.lost step) = lostAt marked k ks p s letters step
 
 -- the step of the segment at p, f being the symbol before it
-unfoldable pub stepAt : Bool → ℕ → ℕ → List ℕ → ℕ → List ℕ → Step
-stepAt marked f k ks p s = afterOne marked k ks p s (readSegment marked f k ks (drop p s) (drop p s))
+unfoldable pub stepAt : Bool → ℕ → ℕ → List ℕ → ℕ → List ℕ → List ℕ → Step
+stepAt marked f k ks p s letters = afterOne marked k ks p s letters (readSegment marked f k ks (drop p s) (drop p letters))
 
 -- the step of the segment at a start, or of one whose start was not found
-abbrev pub stepOf : Option (ℕ × ℕ) → Bool → ℕ → List ℕ → List ℕ → Step
-stepOf (some x) marked k ks s = stepAt marked (x .1) k ks (x .0) s
-stepOf none marked k ks s = record { outcome = unfound k; next = none }
+abbrev pub stepOf : Option (ℕ × ℕ) → Bool → ℕ → List ℕ → List ℕ → List ℕ → Step
+stepOf (some x) marked k ks s letters = stepAt marked (x .1) k ks (x .0) s letters
+stepOf none marked k ks s letters = record { outcome = unfound k; next = none }
 
 -- the outcomes of the segments from a start on, or of those whose start was not found
-unfoldable pub going : Option (ℕ × ℕ) → Bool → List ℕ → List ℕ → List Outcome
-going (some x) marked ks s = reading marked (x .1) ks (drop (x .0) s) (drop (x .0) s)
-going none marked ks s = map unfound ks
+unfoldable pub going : Option (ℕ × ℕ) → Bool → List ℕ → List ℕ → List ℕ → List Outcome
+going (some x) marked ks s letters = reading marked (x .1) ks (drop (x .0) s) (drop (x .0) letters)
+going none marked ks s letters = map unfound ks
 
--- a segment of k message symbols may start at p in the symbols s, f being the symbol before it, and the lengths ks follow
-pub record AtStart (s ks : List ℕ) (k p f : ℕ) : Type 0 where
+-- a segment of k message symbols may start at p in the letters, which are read as s, f being the symbol before it, and the lengths ks follow
+pub record AtStart (s letters ks : List ℕ) (k p f : ℕ) : Type 0 where
   pub received : Received s
+  pub read : s ≡ asSymbols letters
   pub start : Start s p f
   pub message : Length k
   pub behind : Lengths longest ks
@@ -80,25 +83,25 @@ Marked (At p f) marked = Unit {0}
 Marked (Clean p f) marked = marked ≡ true
 Marked Nowhere marked = Unit {0}
 
--- the answer of a segment that stands in its place, its message of k symbols at d: clean, and the next one starts behind its syndrome
+-- the answer of a segment that stands in its place, its message of k symbols at d: no edit, and the next one starts behind its syndrome
 abbrev pub standingAnswer : ℕ → ℕ → List ℕ → Answer
 standingAnswer k d s = let end = d + k + (4 + width k) in record { verdict = Read None; next = At end (getD s (end - 1) 0) }
 
--- r tells verdict and next start of a step, in the symbols s before the lengths ks, and the buffer has its message
-pub record IsStep (t : Step) (s ks out : List ℕ) (r : Answer) : Type 0 where
-  pub verdict : r .verdict ≡ t .outcome .verdict
+-- r tells next start and verdict of a step, but for what is said of its piece, before the lengths ks, and the buffer has its message
+pub record IsStep (t : Step) (s letters ks out : List ℕ) (r : Answer) : Type 0 where
+  pub verdict : told (r .verdict) (t .outcome .piece) ≡ t .outcome .verdict
   pub next : startOf (r .next) ≡ t .next
   pub message : out ≡ t .outcome .message
-  pub known : Known s ks (r .next)
+  pub known : Known s letters ks (r .next)
 
 -- r tells the step of the segment at p, whose message goes from `before` to `after` in the buffer
-abbrev pub Stepped : Bool → ℕ → ℕ → List ℕ → List ℕ → List ℕ → List ℕ → Answer → Type 0
-Stepped marked f p s ks before after r = IsStep (stepAt marked f (length before) ks p s) s ks after r
+abbrev pub Stepped : Bool → ℕ → ℕ → List ℕ → List ℕ → List ℕ → List ℕ → List ℕ → Answer → Type 0
+Stepped marked f p s letters ks before after r = IsStep (stepAt marked f (length before) ks p s letters) s letters ks after r
 
 -- r tells the step of the segment at p, which `step` loses
-abbrev pub SteppedLost : Bool → ℕ → ℕ → List ℕ → List ℕ → List ℕ → List ℕ → Answer → Type 0
-SteppedLost marked step p s ks before after r = IsStep (lostAt marked (length before) ks p s step) s ks after r
+abbrev pub SteppedLost : Bool → ℕ → ℕ → List ℕ → List ℕ → List ℕ → List ℕ → List ℕ → Answer → Type 0
+SteppedLost marked step p s letters ks before after r = IsStep (lostAt marked (length before) ks p s letters step) s letters ks after r
 
 -- r tells the step of the segment at the start x, or of one whose start was not found
-abbrev pub SteppedFrom : Next → Bool → List ℕ → List ℕ → List ℕ → List ℕ → Answer → Type 0
-SteppedFrom x marked s ks before after r = IsStep (stepOf (startOf x) marked (length before) ks s) s ks after r
+abbrev pub SteppedFrom : Next → Bool → List ℕ → List ℕ → List ℕ → List ℕ → List ℕ → Answer → Type 0
+SteppedFrom x marked s letters ks before after r = IsStep (stepOf (startOf x) marked (length before) ks s letters) s letters ks after r

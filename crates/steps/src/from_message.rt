@@ -20,6 +20,7 @@ ghost use Rattle.steps.specs.Steps.{AtStart, Stepped};
 // Steps 8 to 10 of a segment whose message was read.
 fn ended(
     s: &[u8],
+    letters: &[u8],
     p: usize,
     marked: bool,
     f: u8,
@@ -28,20 +29,20 @@ fn ended(
     tail: Tail,
     out: &mut [u8],
 ) -> Answer
-    requires { ⌜ AtStart (now s) (now rest) (length (now out)) p f ⌝ }
+    requires { ⌜ AtStart (now s) (now letters) (now rest) (length (now out)) p f ⌝ }
     requires { ⌜ found ≡ separatorAs (separatorIn marked (length (now out)) p (now s)) ⌝ }
     requires { ⌜ IsTail (now out) tail ⌝ }
     requires { ⌜ R.readMessage marked (length (now out)) (drop p (now s)) ≡ R.message (now out) ⌝ }
-    ensures { λ r. ⌜ Stepped marked f p (now (s .entry)) (now (rest .entry)) (now (out .entry)) (now (out .exit)) r ⌝ }
+    ensures { λ r. ⌜ Stepped marked f p (now (s .entry)) (now (letters .entry)) (now (rest .entry)) (now (out .entry)) (now (out .exit)) r ⌝ }
 {
-    let next = end_of(s, p, marked, out, tail, found, rest);
+    let next = end_of(s, letters, p, marked, out, tail, found, rest);
     if let Next::Nowhere = next {
-        return lost(s, p, marked, rest, 8, out);
+        return lost(s, letters, p, marked, rest, 8, out);
     }
     let end = next_place(next, s.len());
     let verdict = compared(s, p, marked, f, out, tail, end);
     if let Verdict::Lost(step) = verdict {
-        return lost(s, p, marked, rest, step, out);
+        return lost(s, letters, p, marked, rest, step, out);
     }
     Answer { verdict, next }
 }
@@ -49,6 +50,7 @@ fn ended(
 // Steps 8 to 10 of a segment whose message was read, or lost in a step.
 pub fn finished(
     s: &[u8],
+    letters: &[u8],
     p: usize,
     marked: bool,
     f: u8,
@@ -57,13 +59,13 @@ pub fn finished(
     read: MessageResult,
     out: &mut [u8],
 ) -> Answer
-    requires { ⌜ AtStart (now s) (now rest) (length (now out)) p f ⌝ }
+    requires { ⌜ AtStart (now s) (now letters) (now rest) (length (now out)) p f ⌝ }
     requires { ⌜ found ≡ separatorAs (separatorIn marked (length (now out)) p (now s)) ⌝ }
     requires { ⌜ IsMessageResult (R.readMessage marked (length (now out)) (drop p (now s))) (now out) read ⌝ }
-    ensures { λ r. ⌜ Stepped marked f p (now (s .entry)) (now (rest .entry)) (now (out .entry)) (now (out .exit)) r ⌝ }
+    ensures { λ r. ⌜ Stepped marked f p (now (s .entry)) (now (letters .entry)) (now (rest .entry)) (now (out .entry)) (now (out .exit)) r ⌝ }
 {
     match read {
-        MessageResult::Message(tail) => ended(s, p, marked, f, rest, found, tail, out),
-        MessageResult::Lost(step) => lost(s, p, marked, rest, step, out),
+        MessageResult::Message(tail) => ended(s, letters, p, marked, f, rest, found, tail, out),
+        MessageResult::Lost(step) => lost(s, letters, p, marked, rest, step, out),
     }
 }

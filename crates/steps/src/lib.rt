@@ -26,6 +26,7 @@ ghost use mathlib.Core.Bool.{true, false};
 ghost use mathlib.Core.List.{_∷_};
 ghost use Prim.Native.Nat.{_+_, _<_, _≤_};
 ghost use lib.ListN.{length, take, drop};
+ghost use Rattle.code.specs.Symbols.{asSymbols};
 ghost use Rattle.code.specs.Bounds.{longest, reach, Length, Received};
 ghost use Rattle.code.specs.Layers.{width};
 ghost use Rattle.code.specs.Segment.{dataAt};
@@ -52,7 +53,7 @@ fn is_whole(s: &[u8], p: usize, marked: bool) -> bool
     true
 }
 
-// A segment that stands in its place as it would be written, its message at d, is clean.
+// A segment that stands in its place as it would be written, its message at d, is read with no edit.
 fn put_standing(s: &[u8], d: usize, out: &mut [u8]) -> Answer
     requires { ⌜ Received (now s) × Length (length (now out)) ⌝ }
     requires { ⌜ d + length (now out) + (4 + width (length (now out))) ≤ length (now s) ⌝ }
@@ -71,6 +72,7 @@ fn put_standing(s: &[u8], d: usize, out: &mut [u8]) -> Answer
 // Steps 2 to 10 of the segment at p, whose marker is whole; the symbols at d are summed.
 fn read_summed(
     s: &[u8],
+    letters: &[u8],
     p: usize,
     marked: bool,
     f: u8,
@@ -79,65 +81,96 @@ fn read_summed(
     sums: Summed,
     out: &mut [u8],
 ) -> Answer
-    requires { ⌜ AtStart (now s) (now rest) (length (now out)) p f ⌝ }
+    requires { ⌜ AtStart (now s) (now letters) (now rest) (length (now out)) p f ⌝ }
     requires { ⌜ (R.whole marked (drop p (now s)) ≡ true) × (d ≡ p + dataAt marked) × (d + length (now out) ≤ length (now s)) ⌝ }
     requires { ⌜ sums ≡ sumsOf (take (length (now out)) (drop d (now s))) ⌝ }
-    ensures { λ r. ⌜ Stepped marked f p (now (s .entry)) (now (rest .entry)) (now (out .entry)) (now (out .exit)) r ⌝ }
+    ensures { λ r. ⌜ Stepped marked f p (now (s .entry)) (now (letters .entry)) (now (rest .entry)) (now (out .entry)) (now (out .exit)) r ⌝ }
 {
     let k = out.len();
     let to = d + k;
     let tail = tail_with(&s[d..to], sums);
     let found = find_separator(s, d, k);
     let read = read_whole(s, d, found, sums.places, tail, out);
-    finished(s, p, marked, f, rest, found, read, out)
+    finished(s, letters, p, marked, f, rest, found, read, out)
 }
 
 // The segment at p, whose marker is whole: one that stands in its place needs no step.
-fn read_marked(s: &[u8], p: usize, marked: bool, f: u8, rest: &[u16], out: &mut [u8]) -> Answer
-    requires { ⌜ AtStart (now s) (now rest) (length (now out)) p f ⌝ }
+fn read_marked(
+    s: &[u8],
+    letters: &[u8],
+    p: usize,
+    marked: bool,
+    f: u8,
+    rest: &[u16],
+    out: &mut [u8],
+) -> Answer
+    requires { ⌜ AtStart (now s) (now letters) (now rest) (length (now out)) p f ⌝ }
     requires { ⌜ R.whole marked (drop p (now s)) ≡ true ⌝ }
-    ensures { λ r. ⌜ Stepped marked f p (now (s .entry)) (now (rest .entry)) (now (out .entry)) (now (out .exit)) r ⌝ }
+    ensures { λ r. ⌜ Stepped marked f p (now (s .entry)) (now (letters .entry)) (now (rest .entry)) (now (out .entry)) (now (out .exit)) r ⌝ }
 {
     let k = out.len();
     let d = p + data_at(marked);
     let to = d + k;
     if s.len() < to {
-        return lost(s, p, marked, rest, 6, out);
+        return lost(s, letters, p, marked, rest, 6, out);
     }
     let sums = layers::sums(&s[d..to]);
     if is_clean(s, p, marked, f, d, k, sums, rest) {
         return put_standing(s, d, out);
     }
-    read_summed(s, p, marked, f, rest, d, sums, out)
+    read_summed(s, letters, p, marked, f, rest, d, sums, out)
 }
 
 // Steps 2 to 10 of the segment at p, whose marker is hit.
-fn read_unmarked(s: &[u8], p: usize, marked: bool, f: u8, rest: &[u16], out: &mut [u8]) -> Answer
-    requires { ⌜ AtStart (now s) (now rest) (length (now out)) p f ⌝ }
+fn read_unmarked(
+    s: &[u8],
+    letters: &[u8],
+    p: usize,
+    marked: bool,
+    f: u8,
+    rest: &[u16],
+    out: &mut [u8],
+) -> Answer
+    requires { ⌜ AtStart (now s) (now letters) (now rest) (length (now out)) p f ⌝ }
     requires { ⌜ R.whole marked (drop p (now s)) ≡ false ⌝ }
-    ensures { λ r. ⌜ Stepped marked f p (now (s .entry)) (now (rest .entry)) (now (out .entry)) (now (out .exit)) r ⌝ }
+    ensures { λ r. ⌜ Stepped marked f p (now (s .entry)) (now (letters .entry)) (now (rest .entry)) (now (out .entry)) (now (out .exit)) r ⌝ }
 {
     let found = find_separator(s, p + 2, out.len());
     let read = read_hit(s, p, found, out);
-    finished(s, p, marked, f, rest, found, read, out)
+    finished(s, letters, p, marked, f, rest, found, read, out)
 }
 
 // Steps 1 to 10 of the segment at p.
-fn read_at(s: &[u8], p: usize, marked: bool, f: u8, rest: &[u16], out: &mut [u8]) -> Answer
-    requires { ⌜ AtStart (now s) (now rest) (length (now out)) p f ⌝ }
-    ensures { λ r. ⌜ Stepped marked f p (now (s .entry)) (now (rest .entry)) (now (out .entry)) (now (out .exit)) r ⌝ }
+fn read_at(
+    s: &[u8],
+    letters: &[u8],
+    p: usize,
+    marked: bool,
+    f: u8,
+    rest: &[u16],
+    out: &mut [u8],
+) -> Answer
+    requires { ⌜ AtStart (now s) (now letters) (now rest) (length (now out)) p f ⌝ }
+    ensures { λ r. ⌜ Stepped marked f p (now (s .entry)) (now (letters .entry)) (now (rest .entry)) (now (out .entry)) (now (out .exit)) r ⌝ }
 {
     if is_whole(s, p, marked) {
-        return read_marked(s, p, marked, f, rest, out);
+        return read_marked(s, letters, p, marked, f, rest, out);
     }
-    read_unmarked(s, p, marked, f, rest, out)
+    read_unmarked(s, letters, p, marked, f, rest, out)
 }
 
 // The last segment at p, where a clean one is known to stand; letters may follow it.
-fn read_last_clean(s: &[u8], p: usize, f: u8, rest: &[u16], out: &mut [u8]) -> Answer
-    requires { ⌜ AtStart (now s) (now rest) (length (now out)) p f ⌝ }
-    requires { ⌜ (length (now rest) ≡ 0) × (R.clean (length (now out)) f (drop p (now s)) ≡ true) ⌝ }
-    ensures { λ r. ⌜ Stepped true f p (now (s .entry)) (now (rest .entry)) (now (out .entry)) (now (out .exit)) r ⌝ }
+fn read_last_clean(
+    s: &[u8],
+    letters: &[u8],
+    p: usize,
+    f: u8,
+    rest: &[u16],
+    out: &mut [u8],
+) -> Answer
+    requires { ⌜ AtStart (now s) (now letters) (now rest) (length (now out)) p f ⌝ }
+    requires { ⌜ (length (now rest) ≡ 0) × (R.clean (length (now out)) f (drop p (now s)) (drop p (now letters)) ≡ true) ⌝ }
+    ensures { λ r. ⌜ Stepped true f p (now (s .entry)) (now (letters .entry)) (now (rest .entry)) (now (out .entry)) (now (out .exit)) r ⌝ }
 {
     let k = out.len();
     let to = p + 2 + k;
@@ -147,6 +180,7 @@ fn read_last_clean(s: &[u8], p: usize, f: u8, rest: &[u16], out: &mut [u8]) -> A
     let found = find_separator(s, p + 2, k);
     finished(
         s,
+        letters,
         p,
         true,
         f,
@@ -158,26 +192,34 @@ fn read_last_clean(s: &[u8], p: usize, f: u8, rest: &[u16], out: &mut [u8]) -> A
 }
 
 // The segment at p, where a clean one is known to stand.
-fn read_clean(s: &[u8], p: usize, f: u8, rest: &[u16], out: &mut [u8]) -> Answer
-    requires { ⌜ AtStart (now s) (now rest) (length (now out)) p f ⌝ }
-    requires { ⌜ R.clean (length (now out)) f (drop p (now s)) ≡ true ⌝ }
-    ensures { λ r. ⌜ Stepped true f p (now (s .entry)) (now (rest .entry)) (now (out .entry)) (now (out .exit)) r ⌝ }
+fn read_clean(s: &[u8], letters: &[u8], p: usize, f: u8, rest: &[u16], out: &mut [u8]) -> Answer
+    requires { ⌜ AtStart (now s) (now letters) (now rest) (length (now out)) p f ⌝ }
+    requires { ⌜ R.clean (length (now out)) f (drop p (now s)) (drop p (now letters)) ≡ true ⌝ }
+    ensures { λ r. ⌜ Stepped true f p (now (s .entry)) (now (letters .entry)) (now (rest .entry)) (now (out .entry)) (now (out .exit)) r ⌝ }
 {
     if rest.len() == 0 {
-        return read_last_clean(s, p, f, rest, out);
+        return read_last_clean(s, letters, p, f, rest, out);
     }
     put_standing(s, p + 2, out)
 }
 
-// The segment at a start, where one was found, whose message goes to `out`, zeros where it is lost; `rest` is the lengths behind it.
-pub fn read_segment(s: &[u8], start: Next, marked: bool, rest: &[u16], out: &mut [u8]) -> Answer
-    requires { ⌜ Received (now s) × Length (length (now out)) × Lengths longest (now rest) ⌝ }
-    requires { ⌜ Known (now s) (length (now out) ∷ now rest) start × Marked start marked ⌝ }
-    ensures { λ r. ⌜ SteppedFrom start marked (now (s .entry)) (now (rest .entry)) (now (out .entry)) (now (out .exit)) r ⌝ }
+// The segment at a start, where one was found, whose message goes to `out`, zeros where it is lost; the letters are read as s, and `rest` is the
+// lengths behind it. Whether its piece holds an N is not asked here.
+pub fn read_segment(
+    s: &[u8],
+    letters: &[u8],
+    start: Next,
+    marked: bool,
+    rest: &[u16],
+    out: &mut [u8],
+) -> Answer
+    requires { ⌜ Received (now s) × Length (length (now out)) × Lengths longest (now rest) × (now s ≡ asSymbols (now letters)) ⌝ }
+    requires { ⌜ Known (now s) (now letters) (length (now out) ∷ now rest) start × Marked start marked ⌝ }
+    ensures { λ r. ⌜ SteppedFrom start marked (now (s .entry)) (now (letters .entry)) (now (rest .entry)) (now (out .entry)) (now (out .exit)) r ⌝ }
 {
     match start {
-        Next::At(p, f) => read_at(s, p, marked, f, rest, out),
-        Next::Clean(p, f) => read_clean(s, p, f, rest, out),
+        Next::At(p, f) => read_at(s, letters, p, marked, f, rest, out),
+        Next::Clean(p, f) => read_clean(s, letters, p, f, rest, out),
         Next::Nowhere => {
             put_zeros(out);
             Answer {

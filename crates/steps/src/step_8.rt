@@ -12,6 +12,7 @@ ghost use mathlib.Core.Path.{_≡_};
 ghost use mathlib.Core.Bool.{false};
 ghost use Prim.Native.Nat.{_<_, _≤_};
 ghost use lib.ListN.{length};
+ghost use Rattle.code.specs.Symbols.{asSymbols};
 ghost use Rattle.code.specs.Bounds.{longest, Length, Received};
 ghost use Rattle.code.specs.Layout.{Lengths};
 ghost use Rattle.tail.specs.Tails.{IsTail};
@@ -19,14 +20,23 @@ ghost use Rattle.message.specs.MessageAnswers.{separatorAs};
 ghost use Rattle.steps.specs.Step8.{separatorIn, settledAt, IsEnd};
 
 // The end that the symbols after the separator don't settle: where a clean segment of the first of the lengths `rest` starts.
-fn end_at_clean(s: &[u8], p: usize, marked: bool, message: &[u8], tail: Tail, rest: &[u16]) -> Next
-    requires { ⌜ Received (now s) × IsTail (now message) tail × Lengths longest (now rest) ⌝ }
+fn end_at_clean(
+    s: &[u8],
+    letters: &[u8],
+    p: usize,
+    marked: bool,
+    message: &[u8],
+    tail: Tail,
+    rest: &[u16],
+) -> Next
+    requires { ⌜ Received (now s) × IsTail (now message) tail × Lengths longest (now rest) × (now s ≡ asSymbols (now letters)) ⌝ }
     requires { ⌜ (p ≤ length (now s)) × Length (length (now message)) × (0 < length (now rest)) ⌝ }
     requires { ⌜ settledAt marked (now message) p (now s) ≡ false ⌝ }
-    ensures { λ r. ⌜ IsEnd marked (now (message .entry)) (now (rest .entry)) p (now (s .entry)) r ⌝ }
+    ensures { λ r. ⌜ IsEnd marked (now (message .entry)) (now (rest .entry)) p (now (s .entry)) (now (letters .entry)) r ⌝ }
 {
     find_clean(
         s,
+        letters,
         p,
         size_of(marked, message.len()),
         rest[0] as usize,
@@ -39,6 +49,7 @@ fn end_at_clean(s: &[u8], p: usize, marked: bool, message: &[u8], tail: Tail, re
 // Step 8: where the segment of a message at p ends; `rest` is the lengths behind it.
 pub fn end_of(
     s: &[u8],
+    letters: &[u8],
     p: usize,
     marked: bool,
     message: &[u8],
@@ -46,10 +57,10 @@ pub fn end_of(
     found: Separator,
     rest: &[u16],
 ) -> Next
-    requires { ⌜ Received (now s) × IsTail (now message) tail × Lengths longest (now rest) ⌝ }
+    requires { ⌜ Received (now s) × IsTail (now message) tail × Lengths longest (now rest) × (now s ≡ asSymbols (now letters)) ⌝ }
     requires { ⌜ (p ≤ length (now s)) × Length (length (now message)) ⌝ }
     requires { ⌜ found ≡ separatorAs (separatorIn marked (length (now message)) p (now s)) ⌝ }
-    ensures { λ r. ⌜ IsEnd marked (now (message .entry)) (now (rest .entry)) p (now (s .entry)) r ⌝ }
+    ensures { λ r. ⌜ IsEnd marked (now (message .entry)) (now (rest .entry)) p (now (s .entry)) (now (letters .entry)) r ⌝ }
 {
     if rest.len() == 0 {
         return Next::At(s.len(), last_of(tail));
@@ -60,8 +71,8 @@ pub fn end_of(
             if syndrome_at(tail, s, after) {
                 return Next::At(after + tail.width, last_of(tail));
             }
-            end_at_clean(s, p, marked, message, tail, rest)
+            end_at_clean(s, letters, p, marked, message, tail, rest)
         }
-        Separator::Missing => end_at_clean(s, p, marked, message, tail, rest),
+        Separator::Missing => end_at_clean(s, letters, p, marked, message, tail, rest),
     }
 }

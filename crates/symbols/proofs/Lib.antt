@@ -1,4 +1,5 @@
 pub mod LetterBits
 pub mod Loops
+pub mod Verdicts
 pub mod Spelled
 pub mod Decoded

@@ -20,7 +20,7 @@ use Rattle.code.specs.declared.Edit.{Edit}
 use Rattle.code.specs.declared.Edit.the-variants.{None, Sub, Del, Ins}
 use Rattle.code.specs.Reading.{Shift, level, early, late, moved}
 use Rattle.code.specs.laws.EditedBlock.{Settles, tail, length-leave, length-put, leave-last, settles-none, settles-sub, settles-check, settles-del, settles-no-check, settles-ins}
-use Rattle.code.specs.laws.SegmentSteps.{Reads, Final, reads-settled, reads-hit}
+use Rattle.code.specs.laws.SegmentSteps.{Sees, Final, reads-settled, reads-hit}
 
 -- separator and syndrome
 abbrev pub ending : List ℕ → List ℕ
@@ -44,7 +44,7 @@ module _ (m : List ℕ) (two : 2 ≤ length m) (small : Below 4 m) (r : List ℕ
       }
 
   -- an edit that fits message and check, but is not behind the check
-  pub message-edit : (e : Edit) → Fits e (suc (length m)) → (From (suc (length m)) e → ⊥) → Settled m r (applied e (m ++ check m ∷ []) ++ ending m)
+  pub message-edit : (e : Edit) → Fits 4 e (suc (length m)) → (From (suc (length m)) e → ⊥) → Settled m r (applied e (m ++ check m ∷ []) ++ ending m)
   message-edit None h o = with-check level (check m) m (omega arith) (settles-none m two small r)
   message-edit (Sub i x) h o = ⊎-elim at inside (eq-or-lt-of-le (le-of-suc-le-suc (h .0)))
     where
@@ -93,13 +93,13 @@ module _ (m : List ℕ) (two : 2 ≤ length m) (small : Below 4 m) (r : List ℕ
     length-body = simp length-append (omega (arith, length-syndrome m))
 
     -- the marker is whole
-    whole-marker : Reads true m ks (mk ∷ mk ∷ onward) (length (mk ∷ mk ∷ body))
+    whole-marker : Sees true m ks (mk ∷ mk ∷ onward) (length (mk ∷ mk ∷ body))
     whole-marker =
         rw (← onward-is)
         (reads-settled m true f ks body r level (subst (λ (d : List ℕ). Settles level m r d) (sym onward-is) (settles-none m two small r)) length-body last)
 
     -- the marker's symbol put in once more stands before the message
-    thrice : Reads true m ks (mk ∷ mk ∷ mk ∷ onward) (length (mk ∷ mk ∷ mk ∷ body))
+    thrice : Sees true m ks (mk ∷ mk ∷ mk ∷ onward) (length (mk ∷ mk ∷ mk ∷ body))
     thrice =
         let n = length-body in
         rw (← onward-is)
@@ -107,21 +107,21 @@ module _ (m : List ℕ) (two : 2 ≤ length m) (small : Below 4 m) (r : List ℕ
         (subst (λ (d : List ℕ). Settles late m r (mk ∷ d)) (sym onward-is) (settles-ins m two small r 0 mk (omega arith) mk-small)) (omega arith) last)
 
     -- one of its letters replaced by another: x and y differ
-    replaced : (x y : ℕ) → (x ≡ y → ⊥) → Reads true m ks (x ∷ y ∷ onward) (length (x ∷ y ∷ body))
+    replaced : (x y : ℕ) → (x ≡ y → ⊥) → Sees true m ks (x ∷ y ∷ onward) (length (x ∷ y ∷ body))
     replaced x y ne =
         let t = settles-none m two small r in
         let n = length-body in
         reads-hit m x y ks onward (x ∷ y ∷ body) r level ne (take-at m (check m ∷ tail m r) (length m) refl) (t .found) (t .after) (ap (λ (l : List ℕ). x ∷ y ∷ l) (sym onward-is)) (omega arith) last
 
     -- another letter put in at it: the first two of three differ, and the third is the marker's
-    put-in : (x y : ℕ) → (x ≡ y → ⊥) → Reads true m ks (x ∷ y ∷ mk ∷ onward) (length (x ∷ y ∷ mk ∷ body))
+    put-in : (x y : ℕ) → (x ≡ y → ⊥) → Sees true m ks (x ∷ y ∷ mk ∷ onward) (length (x ∷ y ∷ mk ∷ body))
     put-in x y ne =
         let t = settles-ins m two small r 0 mk (omega arith) mk-small in
         let n = length-body in
         reads-hit m x y ks (mk ∷ onward) (x ∷ y ∷ mk ∷ body) r late ne (take-at m (check m ∷ tail m r) (length m) refl) (t .found) (t .after) (ap (λ (l : List ℕ). x ∷ y ∷ mk ∷ l) (sym onward-is)) (omega arith) last
 
     -- one of its letters left out: the other stands before the first message symbol, which differs from it
-    left-out : Reads true m ks (mk ∷ onward) (length (mk ∷ body))
+    left-out : Sees true m ks (mk ∷ onward) (length (mk ∷ body))
     left-out =
         let x = getD m 0 0 in
         let w = drop 1 m ++ check m ∷ tail m r in
@@ -130,19 +130,19 @@ module _ (m : List ℕ) (two : 2 ≤ length m) (small : Below 4 m) (r : List ℕ
         let t = settles-del m two small r 0 (omega arith) in
         let n = length-body in
         let k : take (length m) (x ∷ w) ≡ m = ap (take (length m)) (sym d) ∙ take-at m (check m ∷ tail m r) (length m) refl in
-        subst (λ (l : List ℕ). Reads true m ks (mk ∷ l) (length (mk ∷ body))) (sym d)
+        subst (λ (l : List ℕ). Sees true m ks (mk ∷ l) (length (mk ∷ body))) (sym d)
         (reads-hit m mk x ks w (mk ∷ body) r early (marker-apart f m .second) k (t .found) (t .after) (ap (λ (l : List ℕ). mk ∷ l) (sym d ∙ sym onward-is)) (omega arith) last)
 
-    pub marker-edit : (e : Edit) → Fits e 2 → (From 2 e → ⊥) → Reads true m ks (applied e (mk ∷ mk ∷ []) ++ onward) (length (applied e (mk ∷ mk ∷ []) ++ body))
+    pub marker-edit : (e : Edit) → Fits 4 e 2 → (From 2 e → ⊥) → Sees true m ks (applied e (mk ∷ mk ∷ []) ++ onward) (length (applied e (mk ∷ mk ∷ []) ++ body))
     marker-edit None h o = whole-marker
     marker-edit (Sub zero x) h o = decided (ℕ-discrete x mk)
       where
-        decided : Dec (x ≡ mk) → Reads true m ks (x ∷ mk ∷ onward) (length (x ∷ mk ∷ body))
+        decided : Dec (x ≡ mk) → Sees true m ks (x ∷ mk ∷ onward) (length (x ∷ mk ∷ body))
         decided (yes e) = rw e whole-marker
         decided (no ne) = replaced x mk ne
     marker-edit (Sub (suc zero) x) h o = decided (ℕ-discrete mk x)
       where
-        decided : Dec (mk ≡ x) → Reads true m ks (mk ∷ x ∷ onward) (length (mk ∷ x ∷ body))
+        decided : Dec (mk ≡ x) → Sees true m ks (mk ∷ x ∷ onward) (length (mk ∷ x ∷ body))
         decided (yes e) = rw (← e) whole-marker
         decided (no ne) = replaced mk x ne
     marker-edit (Sub (suc (suc i)) x) h o = absurd (o (omega arith))
@@ -151,12 +151,12 @@ module _ (m : List ℕ) (two : 2 ≤ length m) (small : Below 4 m) (r : List ℕ
     marker-edit (Del (suc (suc i)) x) h o = absurd (o (omega arith))
     marker-edit (Ins zero x) h o = decided (ℕ-discrete x mk)
       where
-        decided : Dec (x ≡ mk) → Reads true m ks (x ∷ mk ∷ mk ∷ onward) (length (x ∷ mk ∷ mk ∷ body))
+        decided : Dec (x ≡ mk) → Sees true m ks (x ∷ mk ∷ mk ∷ onward) (length (x ∷ mk ∷ mk ∷ body))
         decided (yes e) = rw e thrice
         decided (no ne) = put-in x mk ne
     marker-edit (Ins (suc zero) x) h o = decided (ℕ-discrete mk x)
       where
-        decided : Dec (mk ≡ x) → Reads true m ks (mk ∷ x ∷ mk ∷ onward) (length (mk ∷ x ∷ mk ∷ body))
+        decided : Dec (mk ≡ x) → Sees true m ks (mk ∷ x ∷ mk ∷ onward) (length (mk ∷ x ∷ mk ∷ body))
         decided (yes e) = rw (← e) thrice
         decided (no ne) = put-in mk x ne
     marker-edit (Ins (suc (suc i)) x) h o = absurd (o (omega arith))

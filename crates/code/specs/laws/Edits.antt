@@ -48,7 +48,7 @@ put-left (suc i) x [] w h = absurd (not-suc-le-zero h)
 put-left (suc i) x (y ∷ u) w h = ap (λ (l : List ℕ). y ∷ l) (put-left i x u w (le-of-suc-le-suc h))
 
 -- an edit that fits the first list changes that one
-pub applied-left : (e : Edit) (u w : List ℕ) → Fits e (length u) → applied e (u ++ w) ≡ applied e u ++ w
+pub applied-left : (e : Edit) (u w : List ℕ) → Fits 4 e (length u) → applied e (u ++ w) ≡ applied e u ++ w
 applied-left None u w h = refl
 applied-left (Sub i x) u w h = set-append-left u w i x (h .0)
 applied-left (Del i x) u w h = leave-left i u w h
@@ -82,14 +82,14 @@ applied-right (Sub i x) u w h = set-right i x u w h
 applied-right (Del i x) u w h = leave-right i u w h
 applied-right (Ins i x) u w h = put-right i x u w h
 
-pub fits-right : (e : Edit) (n m : ℕ) → From n e → Fits e (n + m) → Fits (less n e) m
+pub fits-right : (e : Edit) (n m : ℕ) → From n e → Fits 4 e (n + m) → Fits 4 (less n e) m
 fits-right None n m h f = absurd h
 fits-right (Sub i x) n m h f = (omega (arith, f .0), f .1)
 fits-right (Del i x) n m h f = omega arith
 fits-right (Ins i x) n m h f = (omega (arith, f .0), f .1)
 
 -- an edit that is not behind the first n of n + m letters fits them
-pub fits-left : (e : Edit) (n m : ℕ) → Fits e (n + m) → (From n e → ⊥) → Fits e n
+pub fits-left : (e : Edit) (n m : ℕ) → Fits 4 e (n + m) → (From n e → ⊥) → Fits 4 e n
 fits-left None n m f o = tt
 fits-left (Sub i x) n m f o = (lt-of-not-le o, f .1)
 fits-left (Del i x) n m f o = lt-of-not-le o

@@ -137,7 +137,7 @@ module _ (m : List ℕ) (two : 2 ≤ length m) (marked : Bool) (f : ℕ) (ks r :
       let q : v ++ r ≡ block t = append-assoc m (check m ∷ t) r in
       let n : length v ≡ length m + 1 + 1 + 3 + width (length m) = length-append m (check m ∷ t) ∙ omega (arith, length-syndrome m) in
       let g = subst (λ (d : List ℕ). Settles late m r d) (sym q) (settles-front m x r (λ e. ne (sym e))) in
-      subst (λ (d : List ℕ). Reads marked m ks (pre marked f m ++ d) (length (stretch t))) q (reads-settled m marked f ks v r late g n (follow-final fol))
+      subst (λ (d : List ℕ). Reads marked m ks (pre marked f m ++ d) (length (stretch t))) q (reads-settled m marked f ks v r late g n (follow-final fol) .reads)
 
   -- separator and syndrome as written
   abbrev pub tail : List ℕ
@@ -163,7 +163,7 @@ module _ (m : List ℕ) (two : 2 ≤ length m) (marked : Bool) (f : ℕ) (ks r :
       go (no ne) = inl (h ne)
 
   -- a segment under an edit in separator or syndrome is read
-  pub tail-read : (e : Edit) → Fits e (3 + width (length m)) → good (applied e tail) ⊎ moved (applied e tail)
+  pub tail-read : (e : Edit) → Fits 4 e (3 + width (length m)) → good (applied e tail) ⊎ moved (applied e tail)
   tail-read None h = inl unhurt
   tail-read (Sub zero x) h = inl (either-way x (λ y. y ∷ s ∷ s ∷ a) refl (sub-first x))
   tail-read (Sub (suc zero) x) h = inl (either-way x (λ y. s ∷ y ∷ s ∷ a) refl (sub-second x))

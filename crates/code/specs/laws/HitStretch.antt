@@ -16,14 +16,14 @@ use lib.Seq.{getD-append-seam, append-snoc, drop-length, take-length}
 use Rattle.code.specs.Layers.{width}
 use Rattle.code.specs.Repair.{putIn}
 use Rattle.code.specs.Segment.{check, syndromeOf, separator, marker, segment, lastOf, size, dataAt}
-use Rattle.code.specs.laws.Segment.{length-syndrome, syndrome-symbols-below, marker-apart, inits, length-inits, syndrome-last}
+use Rattle.code.specs.laws.Segment.{length-syndrome, marker-apart, inits, length-inits, syndrome-last}
 use Rattle.code.specs.laws.Edits.{applied-left}
 use Rattle.code.specs.declared.Edit.the-variants.{Ins}
 use Rattle.code.specs.Reading.{isPrefix, threeEqual, level, separatorAt, syndromeAgrees, readWhole, message, behind}
 use Rattle.code.specs.laws.Reading.{drop-off, prefix-self, prefix-at, prefix-more, find-level}
-use Rattle.code.specs.laws.EditedBlock.{length-put, below-put}
+use Rattle.code.specs.laws.EditedBlock.{length-put}
 use Rattle.code.specs.laws.HitTail.{gives-level, gives-none, none-found, is-false}
-use Rattle.code.specs.laws.SegmentSteps.{pre, Reads, length-pre}
+use Rattle.code.specs.laws.SegmentSteps.{pre, Reads, Sees, length-pre}
 use Rattle.code.specs.laws.OpenEnd.{Follow, reads-same, reads-short, reads-long, reads-seen, seen}
 
 -- The stretch t stands where separator and syndrome should
@@ -146,9 +146,8 @@ module _ (m : List ℕ) (two : 2 ≤ length m) (marked : Bool) (f : ℕ) (ks r :
   -- a letter put in stands behind the syndrome and is left to the next segment
   pub record Moved (t : List ℕ) : Type 0 where
     pub letter : ℕ
-    pub small : letter < 4
     pub behind-it : t ≡ (s ∷ s ∷ s ∷ a) ++ letter ∷ []
-    pub reads-it : Reads marked m ks (pre marked f m ++ block t) (size marked (length m))
+    pub reads-it : Sees marked m ks (pre marked f m ++ block t) (size marked (length m))
 
   -- a letter put in before, in or after the syndrome
   pub level-long : (i x : ℕ) → i ≤ width (length m) → x < 4 → Good (s ∷ s ∷ s ∷ putIn i x a) ⊎ Moved (s ∷ s ∷ s ∷ putIn i x a)
@@ -183,9 +182,8 @@ module _ (m : List ℕ) (two : 2 ≤ length m) (marked : Bool) (f : ℕ) (ks r :
       go : (y : Bool) → isPrefix a (b ++ r) ≡ y → Good t ⊎ Moved t
       go true e =
           ⊎-elim inl
-          (λ (g : Reads marked m ks (pre marked f m ++ block t) (size marked (length m))). inr (record {
+          (λ (g : Sees marked m ks (pre marked f m ++ block t) (size marked (length m))). inr (record {
             letter = getD b (length a) 0;
-            small = below-put i x a hx (syndrome-symbols-below m) (length a);
             behind-it = ap (λ (l : List ℕ). s ∷ s ∷ s ∷ l) (prefix-more a b r n e);
             reads-it = g;
           }))

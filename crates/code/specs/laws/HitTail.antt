@@ -53,7 +53,7 @@ pub record Front (f x y z : ℕ) : Type 0 where
   pub not-f : x ≡ f → ⊥
   pub not-next : x ≡ z → ⊥
 
-pub clean-front : (k f x y z : ℕ) (w : List ℕ) → 0 < k → clean k f (x ∷ y ∷ z ∷ w) ≡ true → Front f x y z
+pub clean-front : (k f x y z : ℕ) (w : List ℕ) → 0 < k → clean k f (x ∷ y ∷ z ∷ w) (x ∷ y ∷ z ∷ w) ≡ true → Front f x y z
 unfolding clean segment isPrefix
 clean-front (suc k) f x y z w h e =
     let m = z ∷ take k w in
@@ -65,12 +65,12 @@ clean-front (suc k) f x y z w h e =
     record { equal = sym i ∙ j; not-f = λ g. a .first (i ∙ g); not-next = λ g. a .second (i ∙ g) }
 clean-front zero f x y z w h e = absurd (omega arith)
 
--- what is written is clean
-pub clean-written : (f : ℕ) (m r : List ℕ) → clean (length m) f (segment true f m ++ r) ≡ true
+-- what is written is clean, whatever stands behind it
+pub clean-written : (f : ℕ) (m r letters : List ℕ) → clean (length m) f (segment true f m ++ r) (segment true f m ++ letters) ≡ true
 unfolding clean segment block
-clean-written f m r =
+clean-written f m r letters =
     let b = check m ∷ separator m ∷ separator m ∷ separator m ∷ syndromeOf m in
-    rw (append-assoc m b r, take-at m (b ++ r) (length m) refl, ← append-assoc m b r) (prefix-self (marker f m ∷ marker f m ∷ (m ++ b)) r)
+    rw (append-assoc m b r, take-at m (b ++ r) (length m) refl) (prefix-self (marker f m ∷ marker f m ∷ (m ++ b)) letters)
 
 -- The end, where a clean segment follows
 
@@ -80,7 +80,7 @@ is-false false h = refl
 
 -- the search for the end about n
 abbrev pub search : ℕ → ℕ → ℕ → List ℕ → Option Shift
-search n k f letters = firstShift (λ e. clean k f (drop (moved e n) letters))
+search n k f s = firstShift (λ e. clean k f (drop (moved e n) s) (drop (moved e n) s))
 
 module _ (n f : ℕ) (m : List ℕ) (two : 2 ≤ length m) (r : List ℕ) where
   -- its marker, first symbols and rest
@@ -91,14 +91,14 @@ module _ (n f : ℕ) (m : List ℕ) (two : 2 ≤ length m) (r : List ℕ) where
       (drop 2 m ++ b ++ r, ap (λ (l : List ℕ). marker f m ∷ marker f m ∷ (l ++ b) ++ r) (heads m two))
 
   pub ends-level : (u : List ℕ) → length u ≡ n → search n (length m) f (u ++ (segment true f m ++ r)) ≡ some level
-  ends-level u e = rw (drop-off n u (segment true f m ++ r) 0 (omega arith), clean-written f m r)
+  ends-level u e = rw (drop-off n u (segment true f m ++ r) 0 (omega arith), clean-written f m r r)
 
   pub ends-early : (u : List ℕ) → suc (length u) ≡ n → search n (length m) f (u ++ (segment true f m ++ r)) ≡ some early
   ends-early u e =
       let q = follower-is in
       let a = marker-apart f m in
-      let l : clean (length m) f (drop n (u ++ (segment true f m ++ r))) ≡ false = rw (drop-off n u (segment true f m ++ r) 1 (omega arith), q .1) (is-false _ (λ h. a .second (clean-front (length m) f (marker f m) (getD m 0 0) (getD m 1 0) (q .0) (omega arith) h .equal))) in
-      let y : clean (length m) f (drop (n - 1) (u ++ (segment true f m ++ r))) ≡ true = rw (drop-off (n - 1) u (segment true f m ++ r) 0 (omega arith)) (clean-written f m r) in
+      let l : clean (length m) f (drop n (u ++ (segment true f m ++ r))) (drop n (u ++ (segment true f m ++ r))) ≡ false = rw (drop-off n u (segment true f m ++ r) 1 (omega arith), q .1) (is-false _ (λ h. a .second (clean-front (length m) f (marker f m) (getD m 0 0) (getD m 1 0) (q .0) (omega arith) h .equal))) in
+      let y : clean (length m) f (drop (n - 1) (u ++ (segment true f m ++ r))) (drop (n - 1) (u ++ (segment true f m ++ r))) ≡ true = rw (drop-off (n - 1) u (segment true f m ++ r) 0 (omega arith)) (clean-written f m r r) in
       rw (l, y)
 
   pub ends-late : (u : List ℕ) → length u ≡ n → 0 < n → search n (length m) f (u ++ f ∷ (segment true f m ++ r)) ≡ some late
@@ -106,8 +106,8 @@ module _ (n f : ℕ) (m : List ℕ) (two : 2 ≤ length m) (r : List ℕ) where
       let q = follower-is in
       let k = marker f m in
       let v = f ∷ (segment true f m ++ r) in
-      let l : clean (length m) f (drop n (u ++ v)) ≡ false = rw (drop-off n u v 0 (omega arith), q .1) (is-false _ (λ h. clean-front (length m) f f k k (getD m 0 0 ∷ getD m 1 0 ∷ q .0) (omega arith) h .not-f refl)) in
+      let l : clean (length m) f (drop n (u ++ v)) (drop n (u ++ v)) ≡ false = rw (drop-off n u v 0 (omega arith), q .1) (is-false _ (λ h. clean-front (length m) f f k k (getD m 0 0 ∷ getD m 1 0 ∷ q .0) (omega arith) h .not-f refl)) in
       let d : drop (n - 1) (u ++ v) ≡ getD u (n - 1) 0 ∷ v = drop-last (n - 1) u v (omega arith) in
-      let y : clean (length m) f (drop (n - 1) (u ++ v)) ≡ false = rw (d, q .1) (is-false _ (λ h. let g = clean-front (length m) f (getD u (n - 1) 0) f k (k ∷ getD m 0 0 ∷ getD m 1 0 ∷ q .0) (omega arith) h in g .not-f (g .equal))) in
-      let z : clean (length m) f (drop (n + 1) (u ++ v)) ≡ true = rw (drop-off (n + 1) u v 1 (omega arith)) (clean-written f m r) in
+      let y : clean (length m) f (drop (n - 1) (u ++ v)) (drop (n - 1) (u ++ v)) ≡ false = rw (d, q .1) (is-false _ (λ h. let g = clean-front (length m) f (getD u (n - 1) 0) f k (k ∷ getD m 0 0 ∷ getD m 1 0 ∷ q .0) (omega arith) h in g .not-f (g .equal))) in
+      let z : clean (length m) f (drop (n + 1) (u ++ v)) (drop (n + 1) (u ++ v)) ≡ true = rw (drop-off (n + 1) u v 1 (omega arith)) (clean-written f m r r) in
       rw (l, y, z)

@@ -97,7 +97,7 @@ or-right true b e = refl
 or-right false b e = e
 
 -- an edit that turns w into v is found at its place
-edit-turns : (w v : List ℕ) (e : Edit) → Fits e (length w) → applied e w ≡ v → (e ≡ None → ⊥) → turnsAt w v (placeOf e) ≡ true
+edit-turns : (w v : List ℕ) (e : Edit) → Fits 4 e (length w) → applied e w ≡ v → (e ≡ None → ⊥) → turnsAt w v (placeOf e) ≡ true
 unfolding turns subAt delAt insAt turnsAt
 edit-turns w v None h t n = absurd (n refl)
 edit-turns w v (Sub i x) h t n =
@@ -121,7 +121,7 @@ is-none (Ins i x) = no (λ e. let z : _≡_ {A = ℕ} 0 1 = cc in omega arith)
 
 -- The judgement
 
-fits-place : (e : Edit) (n : ℕ) → Fits e n → placeOf e ≤ n
+fits-place : (e : Edit) (n : ℕ) → Fits 4 e n → placeOf e ≤ n
 fits-place None n h = omega arith
 fits-place (Sub i x) n h = omega (arith, h .0)
 fits-place (Del i x) n h = omega arith
@@ -131,7 +131,7 @@ module _ (w v : List ℕ) where
   -- the named edit gives the piece, and no edit with a smaller place does
   pub record Named (e : Edit) : Type 0 where
     pub gives : applied e w ≡ v
-    pub smallest : (d : Edit) → Fits d (length w) → applied d w ≡ v → placeOf e ≤ placeOf d
+    pub smallest : (d : Edit) → Fits 4 d (length w) → applied d w ≡ v → placeOf e ≤ placeOf d
 
   unequal : (d : Edit) → same w v ≡ false → applied d w ≡ v → d ≡ None → ⊥
   unequal d f t e =
@@ -155,7 +155,7 @@ module _ (w v : List ℕ) where
           }
 
   -- where no edit is named, one is not enough
-  pub judged-none : judged w v ≡ none → (d : Edit) → Fits d (length w) → applied d w ≡ v → ⊥
+  pub judged-none : judged w v ≡ none → (d : Edit) → Fits 4 d (length w) → applied d w ≡ v → ⊥
   unfolding judged
   judged-none h d k t = go (same w v) refl h
     where

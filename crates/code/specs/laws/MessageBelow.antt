@@ -13,7 +13,7 @@ use lib.ListN.{length, getD, take, drop, replicate}
 use Rattle.code.specs.declared.Edit.the-variants.{None, Sub, Del, Ins}
 use Rattle.code.specs.declared.Link.{Link}
 use Rattle.code.specs.declared.Verdict.{Verdict}
-use Rattle.code.specs.declared.Verdict.the-variants.{Read, Lost, NoStart}
+use Rattle.code.specs.declared.Verdict.the-variants.{Read, Unknown, Lost, NoStart}
 use Rattle.code.specs.Symbols.{Below}
 use Rattle.code.specs.laws.Below.{below-cons, below-append, below-take, below-drop}
 use Rattle.code.specs.Layers.{Word, layer, pair, width, number}
@@ -101,6 +101,7 @@ mark-below (Read None) = omega arith
 mark-below (Read (Sub i x)) = omega arith
 mark-below (Read (Del i x)) = omega arith
 mark-below (Read (Ins i x)) = omega arith
+mark-below Unknown = omega arith
 mark-below (Lost step) = omega arith
 mark-below NoStart = omega arith
 

@@ -134,8 +134,8 @@ read-segment-message marked f k ks s letters m e o t = go (readMessage marked k 
     judging n p (some d) q = cc
     judging n p none q = let z : _≡_ {A = ℕ} 0 1 = cc in absurd (omega arith)
 
-    ending : (n : List ℕ) (p : Option ℕ) → withEnd marked f letters n p ≡ read m e o → n ≡ m
-    ending n (some p) q = judging n p (judged (segment marked f n) (take p letters)) q
+    ending : (n : List ℕ) (p : Option ℕ) → withEnd marked f s n p ≡ read m e o → n ≡ m
+    ending n (some p) q = judging n p (judged (segment marked f n) (take p s)) q
     ending n none q = let z : _≡_ {A = ℕ} 0 1 = cc in absurd (omega arith)
 
     go : (g : MessageResult) → readMessage marked k s ≡ g → withMessage marked f k ks s letters g ≡ read m e o → readMessage marked k s ≡ message m

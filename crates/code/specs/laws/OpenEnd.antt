@@ -10,7 +10,7 @@ use lib.ListN.{length, length-append}
 use Rattle.code.specs.Segment.{segment, lastOf, size, dataAt}
 use Rattle.code.specs.Reading.{Shift, level, early, late, moved, separatorAt, readWhole, message, settled, behind, endOf}
 use Rattle.code.specs.laws.HitTail.{search, ends-level, ends-early, ends-late}
-use Rattle.code.specs.laws.SegmentSteps.{pre, Reads, drop-pre, read-message-pre}
+use Rattle.code.specs.laws.SegmentSteps.{pre, Reads, Sees, drop-pre, read-message-pre}
 
 -- nothing follows, or an untouched segment
 pub data Follow (f : ℕ) : List ℕ → List ℕ → Type 0 where
@@ -71,6 +71,7 @@ module _ (m : List ℕ) (marked : Bool) (f : ℕ) (d : List ℕ) where
         reads (length m′ ∷ ks′) (suc (length u)) (at-next (length m′) ks′ late s (rw e (ends-late n (lastOf m) m′ two r′ u l (omega arith))) ∙ ap some q)
 
     -- the syndrome is seen though the stretch is longer: the end is the strand's, or that of the untouched segment
-    pub reads-seen : (ks u r : List ℕ) → Follow (lastOf m) ks r → strand ≡ u ++ r → seen ≡ true → dataAt marked + behind (length m) (separatorAt (length m) d) ≡ n → Reads marked m ks strand (length u) ⊎ Reads marked m ks strand n
+    pub reads-seen : (ks u r : List ℕ) → Follow (lastOf m) ks r → strand ≡ u ++ r → seen ≡ true → dataAt marked + behind (length m) (separatorAt (length m) d) ≡ n → Reads marked m ks strand (length u) ⊎ Sees marked m ks strand n
     reads-seen ks u r final e s b = inl (reads [] (length u) (at-end ∙ ap some (ap length (e ∙ append-nil u))))
-    reads-seen ks u r (follows m′ ks′ r′ two) e s b = inr (reads (length m′ ∷ ks′) n (at-behind (length m′) ks′ s ∙ ap some b))
+    reads-seen ks u r (follows m′ ks′ r′ two) e s b =
+        inr (record { reads = reads (length m′ ∷ ks′) n (at-behind (length m′) ks′ s ∙ ap some b); seen = rw (drop-pre m marked f d) s })

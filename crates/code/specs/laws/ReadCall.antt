@@ -22,7 +22,7 @@ use Rattle.code.specs.declared.Refusal.{Refusal}
 use Rattle.code.specs.declared.Refusal.the-variants.{Overlong, ShortBuffer, ForeignLetter, NoSuchSegment}
 use Rattle.code.specs.declared.Checked.{Checked}
 use Rattle.code.specs.declared.Checked.the-variants.{Fine, Refused}
-use Rattle.code.specs.Symbols.{letterOf, letters, legible, decoded}
+use Rattle.code.specs.Symbols.{letterOf, letters, legible, decoded, asSymbols}
 use Rattle.code.specs.laws.Symbols.{whole-letters, whole-length, length-bytes}
 use Rattle.code.specs.Layout.{sum, joined}
 use Rattle.code.specs.Limits.{mostLetters}
@@ -80,21 +80,21 @@ module _ (o : Order) (cs : List ℕ) (received : receivedTest o (length cs) Fine
     pub read-foreign : (i : ℕ) → shortBuffers o n m ≡ false → decoded cs ≡ D.Foreign i → readTest o cs n m ≡ Refused (ForeignLetter i)
     read-foreign i e d = received-then o (length cs) _ received ∙ rw (e, d)
 
-    pub read-fine : shortBuffers o n m ≡ false → decoded cs ≡ D.Whole → readTest o cs n m ≡ Fine
-    read-fine e d = received-then o (length cs) _ received ∙ rw (e, d)
+    pub read-fine : (b : Bool) → shortBuffers o n m ≡ false → decoded cs ≡ D.Whole b → readTest o cs n m ≡ Fine
+    read-fine b e d = received-then o (length cs) _ received ∙ rw (e, d)
 
   module _ (i : ℕ) where
     pub piece-foreign : (j : ℕ) → decoded cs ≡ D.Foreign j → pieceTest o cs i ≡ Refused (ForeignLetter j)
     piece-foreign j d = received-then o (length cs) _ received ∙ rw d
 
-    pub piece-outside : decoded cs ≡ D.Whole → outside 1 (length (o .lengths)) i ≡ true → pieceTest o cs i ≡ Refused NoSuchSegment
-    piece-outside d e = received-then o (length cs) _ received ∙ rw (d, e)
+    pub piece-outside : (b : Bool) → decoded cs ≡ D.Whole b → outside 1 (length (o .lengths)) i ≡ true → pieceTest o cs i ≡ Refused NoSuchSegment
+    piece-outside b d e = received-then o (length cs) _ received ∙ rw (d, e)
 
-    pub piece-fine : decoded cs ≡ D.Whole → outside 1 (length (o .lengths)) i ≡ false → pieceTest o cs i ≡ Fine
-    piece-fine d e = received-then o (length cs) _ received ∙ rw (d, e)
+    pub piece-fine : (b : Bool) → decoded cs ≡ D.Whole b → outside 1 (length (o .lengths)) i ≡ false → pieceTest o cs i ≡ Fine
+    piece-fine b d e = received-then o (length cs) _ received ∙ rw (d, e)
 
-not-foreign : (d : Decoded) (next : Checked) → foreignTest d next ≡ Fine → (d ≡ D.Whole) × (next ≡ Fine)
-not-foreign D.Whole next e = (refl, e)
+not-foreign : (d : Decoded) (next : Checked) → foreignTest d next ≡ Fine → (b : Bool) × (d ≡ D.Whole b)
+not-foreign (D.Whole b) next e = (b, refl)
 not-foreign (D.Foreign j) next e = let z : _≡_ {A = ℕ} 0 1 = cc in absurd (omega arith)
 
 -- what holds of a call that is taken: tests 1 to 4 are not met, and neither is what follows
@@ -106,10 +106,10 @@ received-taken o n next e = go (receivedTest o n Fine) refl
     go (Refused u) p = let q : Fine ≡ Refused u = sym e ∙ received-refused o n u next p in let z : _≡_ {A = ℕ} 0 1 = cc in absurd (omega arith)
 
 -- a piece call that is taken has an order that is taken and letters alone
-pub piece-taken : (o : Order) (cs : List ℕ) (i : ℕ) → pieceTest o cs i ≡ Fine → (Taken o) × (decoded cs ≡ D.Whole)
+pub piece-taken : (o : Order) (cs : List ℕ) (i : ℕ) → pieceTest o cs i ≡ Fine → (Taken o) × ((b : Bool) × (decoded cs ≡ D.Whole b))
 piece-taken o cs i e =
     let p = received-taken o (length cs) _ e in
-    (received-fine o (length cs) (p .0) .0, not-foreign (decoded cs) _ (p .1) .0)
+    (received-fine o (length cs) (p .0) .0, not-foreign (decoded cs) _ (p .1))
 
 -- the sheet of marks has a byte for four of them or fewer
 pub length-sheet : (marks : List ℕ) → length (sheetOf marks) ≡ sheetBytes (length marks)
@@ -146,15 +146,15 @@ letters-drop (suc n) (x ∷ s) = letters-drop n s
 -- the pieces of a layout with a segment, joined, are all that was received
 all-pieces : (ks s : List ℕ) → 1 ≤ length ks → joined (piecesOf (outcomes ks s)) ≡ s
 all-pieces [] s h = absurd (omega arith)
-all-pieces (k ∷ ks) s h = joined-pieces false 0 k ks s s
+all-pieces (k ∷ ks) s h = joined-pieces false 0 k ks (asSymbols s) s
 
-module _ (o : Order) (cs : List ℕ) (t : Taken o) (w : decoded cs ≡ D.Whole) where
+module _ (o : Order) (cs : List ℕ) (t : Taken o) (b : Bool) (w : decoded cs ≡ D.Whole b) where
   pieces-legible : joined (piecesOf (outcomesOf o cs)) ≡ legible cs
   pieces-legible = all-pieces (o .lengths) (legible cs) (order-fine o false t .some-segments)
 
   -- the piece behind the first i pieces lies inside the caller's letters
   pub piece-inside : (i : ℕ) → pieceStart (outcomesOf o cs) i + pieceLength (outcomesOf o cs) i ≤ length cs
-  piece-inside i = omega (arith, part-inside (piecesOf (outcomesOf o cs)) i, ap length pieces-legible, whole-length cs w)
+  piece-inside i = omega (arith, part-inside (piecesOf (outcomesOf o cs)) i, ap length pieces-legible, whole-length cs b w)
 
   -- the letters of the i-th piece, from 1, are those of its outcome
   pub piece-letters : (i : ℕ) → pieceOf (outcomesOf o cs) cs i ≡ letters (getD (piecesOf (outcomesOf o cs)) (i - 1) [])
@@ -162,5 +162,5 @@ module _ (o : Order) (cs : List ℕ) (t : Taken o) (w : decoded cs ≡ D.Whole) 
       let ps = piecesOf (outcomesOf o cs) in
       let n = sum (take (i - 1) (map length ps)) in
       let x = getD (map length ps) (i - 1) 0 in
-      let same : cs ≡ letters (joined ps) = sym (whole-letters cs w) ∙ ap letters (sym pieces-legible) in
+      let same : cs ≡ letters (joined ps) = sym (whole-letters cs b w) ∙ ap letters (sym pieces-legible) in
       ap (λ (c : List ℕ). take x (drop n c)) same ∙ ap (take x) (letters-drop n (joined ps)) ∙ letters-take x (drop n (joined ps)) ∙ ap letters (part ps (i - 1))

@@ -12,7 +12,7 @@ use lib.ListN.{length, length-map}
 use Rattle.code.specs.declared.Decoded.the-variants as D
 use Rattle.code.specs.declared.Refusal.the-variants.{ShortBuffer}
 use Rattle.code.specs.declared.Checked.the-variants.{Fine}
-use Rattle.code.specs.Symbols.{letterOf, legible, decoded, symbols, bytes}
+use Rattle.code.specs.Symbols.{letterOf, legible, decoded, hasUnknown, symbols, bytes}
 use Rattle.code.specs.laws.Symbols.{legible-letters, length-symbols, symbols-below, bytes-symbols}
 use Rattle.code.specs.Layout.{sum}
 use Rattle.code.specs.Limits.{mostLength, mostLetters}
@@ -33,7 +33,7 @@ pub only-short : (o : Order) (cs bs s : List ℕ) (n m : ℕ) → Sent o cs bs s
 only-short o cs bs s n m sent =
     let r = readable o false bs s (order-fine o false (sent .order)) (sent .size) (sent .one-edit) in
     let short : length cs ≤ mostLetters = omega (arith, r .short, length-map s letterOf, ap length (sent .received)) in
-    let letters-alone : decoded cs ≡ D.Whole = ap decoded (sym (sent .received)) ∙ r .no-foreign in
+    let letters-alone : decoded cs ≡ D.Whole (hasUnknown s) = ap decoded (sym (sent .received)) ∙ r .no-foreign in
     received-then o (length cs) _ (fine-received o (length cs) (sent .order) short) ∙ rw letters-alone
 
 -- what holds of the reading of letters that carry the bytes bs

@@ -8,7 +8,7 @@ use native.Mathlib.Omega.{arith}
 use lib.ListN.{length, take, drop, length-append}
 use Rattle.code.specs.Layers.{width}
 use Rattle.code.specs.Segment.{syndromeOf, marker, dataAt}
-use Rattle.code.specs.Reading.{Shift, moved, separatorAt, afterSeparator, syndromeAgrees, readWhole, readMessage, message, endOf}
+use Rattle.code.specs.Reading.{Shift, moved, separatorAt, afterSeparator, syndromeAgrees, readWhole, readMessage, message, settled, endOf}
 use Rattle.code.specs.laws.Reading.{prefix-self, two-yes, two-no}
 use Rattle.code.specs.laws.EditedBlock.{Settles}
 
@@ -21,6 +21,17 @@ pre false f m = []
 pub record Reads (marked : Bool) (m ks s : List ℕ) (o : ℕ) : Type 0 where
   pub read-message-is : readMessage marked (length m) s ≡ message m
   pub end-is : endOf marked (length m) ks s s m ≡ some o
+
+-- the same, and the syndrome behind the separator settles the end
+pub record Sees (marked : Bool) (m ks s : List ℕ) (o : ℕ) : Type 0 where
+  pub reads : Reads marked m ks s o
+  pub seen : settled (length m) (drop (dataAt marked) s) m (separatorAt (length m) (drop (dataAt marked) s)) ≡ true
+
+-- an end that the syndrome settles is that of all letters that are read as these symbols
+pub sees-end : (marked : Bool) (m ks s letters : List ℕ) (o : ℕ) → Sees marked m ks s o → length letters ≡ length s → endOf marked (length m) ks s letters m ≡ some o
+unfolding endOf
+sees-end marked m [] s letters o g n = ap some n ∙ g .reads .end-is
+sees-end marked m (k ∷ ks) s letters o g n = rw (g .seen) (rw (g .seen) at (g .reads .end-is))
 
 -- no segment follows only where nothing does
 abbrev pub Final : List ℕ → List ℕ → Type 0
@@ -39,6 +50,9 @@ module _ (m : List ℕ) where
       ap some (ap length e ∙ length-append u r ∙ rw q (omega arith))
   settled-end marked (k ∷ ks) s u r j found after e n last = rw (found, agrees j (drop (dataAt marked) s) r after, ← n)
 
+  settled-seen : (d r : List ℕ) (j : Shift) → separatorAt (length m) d ≡ some j → afterSeparator j (length m) d ≡ syndromeOf m ++ r → settled (length m) d m (separatorAt (length m) d) ≡ true
+  settled-seen d r j found after = rw (found, agrees j d r after)
+
   pub read-message-pre : (marked : Bool) (f : ℕ) (d : List ℕ) → readMessage marked (length m) (pre marked f m ++ d) ≡ readWhole (length m) d (separatorAt (length m) d)
   unfolding readMessage
   read-message-pre true f d = rw (two-yes (marker f m) d)
@@ -53,19 +67,25 @@ module _ (m : List ℕ) where
   length-pre false f = refl
 
   -- behind a whole marker the syndrome is seen
-  pub reads-settled : (marked : Bool) (f : ℕ) (ks v r : List ℕ) (j : Shift) → Settles j m r (v ++ r) → length v ≡ moved j (length m + 1) + 3 + width (length m) → Final ks r → Reads marked m ks (pre marked f m ++ (v ++ r)) (length (pre marked f m ++ v))
+  pub reads-settled : (marked : Bool) (f : ℕ) (ks v r : List ℕ) (j : Shift) → Settles j m r (v ++ r) → length v ≡ moved j (length m + 1) + 3 + width (length m) → Final ks r → Sees marked m ks (pre marked f m ++ (v ++ r)) (length (pre marked f m ++ v))
   reads-settled marked f ks v r j t n last =
       let d = drop-pre marked f (v ++ r) in
       record {
-        read-message-is = read-message-pre marked f (v ++ r) ∙ rw (t .found) (t .gives);
-        end-is = settled-end marked ks (pre marked f m ++ (v ++ r)) (pre marked f m ++ v) r j (rw d (t .found)) (rw d (t .after)) (sym (append-assoc (pre marked f m) v r)) (simp length-append (omega (arith, length-pre marked f))) last;
+        reads = record {
+          read-message-is = read-message-pre marked f (v ++ r) ∙ rw (t .found) (t .gives);
+          end-is = settled-end marked ks (pre marked f m ++ (v ++ r)) (pre marked f m ++ v) r j (rw d (t .found)) (rw d (t .after)) (sym (append-assoc (pre marked f m) v r)) (simp length-append (omega (arith, length-pre marked f))) last;
+        };
+        seen = rw d (settled-seen (v ++ r) r j (t .found) (t .after));
       }
 
   -- a hit marker: two symbols that differ
-  pub reads-hit : (x y : ℕ) (ks w u r : List ℕ) (j : Shift) → (x ≡ y → ⊥) → take (length m) (drop (moved j 2) (x ∷ y ∷ w)) ≡ m → separatorAt (length m) w ≡ some j → afterSeparator j (length m) w ≡ syndromeOf m ++ r → x ∷ y ∷ w ≡ u ++ r → length u ≡ 2 + (moved j (length m + 1) + 3 + width (length m)) → Final ks r → Reads true m ks (x ∷ y ∷ w) (length u)
+  pub reads-hit : (x y : ℕ) (ks w u r : List ℕ) (j : Shift) → (x ≡ y → ⊥) → take (length m) (drop (moved j 2) (x ∷ y ∷ w)) ≡ m → separatorAt (length m) w ≡ some j → afterSeparator j (length m) w ≡ syndromeOf m ++ r → x ∷ y ∷ w ≡ u ++ r → length u ≡ 2 + (moved j (length m + 1) + 3 + width (length m)) → Final ks r → Sees true m ks (x ∷ y ∷ w) (length u)
   unfolding readMessage
   reads-hit x y ks w u r j differ t found after e n last =
       record {
-        read-message-is = rw (two-no x y w differ, found) (ap message t);
-        end-is = settled-end true ks (x ∷ y ∷ w) u r j found after e n last;
+        reads = record {
+          read-message-is = rw (two-no x y w differ, found) (ap message t);
+          end-is = settled-end true ks (x ∷ y ∷ w) u r j found after e n last;
+        };
+        seen = settled-seen w r j found after;
       }

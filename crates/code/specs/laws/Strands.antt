@@ -8,21 +8,21 @@ use native.Mathlib.Omega.{arith}
 use lib.ListN.{length, getD, take, drop, length-map, take-append-drop}
 use lib.Seq.{take-length, take-at}
 use lib.Dec.{eqb}
-use Rattle.code.specs.Symbols.{Below}
+use Rattle.code.specs.Symbols.{Below, hasUnknown}
 use Rattle.code.specs.Segment.{check, marker, block, segment, lastOf, size}
 use Rattle.code.specs.laws.Segment.{length-segment}
 use Rattle.code.specs.Layout.{joined}
 use Rattle.code.specs.Edits.{judged}
 use Rattle.code.specs.laws.Edits.{same-refl}
 use Rattle.code.specs.Reading.{MessageResult, message, SegmentResult, read, lost, readMessage, endOf, clean, readSegment, withMessage, withEdit}
-use Rattle.code.specs.laws.SegmentSteps.{pre, Reads, Final, reads-settled}
+use Rattle.code.specs.laws.SegmentSteps.{pre, Sees, Final, sees-end, reads-settled}
 use Rattle.code.specs.laws.EditedSegment.{ending, message-edit}
 use Rattle.code.specs.Sheet.{markOf, marksOf, countOf}
-use Rattle.code.specs.Strands.{Outcome, firstStart, scan, unfound, lostAndRest, segmentAndRest, reading, verdictsOf}
+use Rattle.code.specs.Strands.{told, Outcome, firstStart, scan, unfound, lostAndRest, segmentAndRest, reading, verdictsOf}
 use Rattle.code.specs.declared.Edit.{Edit}
 use Rattle.code.specs.declared.Edit.the-variants.{None, Sub, Del, Ins}
 use Rattle.code.specs.declared.Verdict.{Verdict}
-use Rattle.code.specs.declared.Verdict.the-variants.{Read, Lost, NoStart}
+use Rattle.code.specs.declared.Verdict.the-variants.{Read, Unknown, Lost, NoStart}
 
 -- there are as many outcomes as segments
 pub length-reading : (marked : Bool) (f : ℕ) (ks s letters : List ℕ) → length (reading marked f ks s letters) ≡ length ks
@@ -51,7 +51,7 @@ last-end marked f k s letters m e o h = go (readMessage marked k s) h
     judging n none q = let z : _≡_ {A = ℕ} 0 1 = cc in absurd (omega arith)
 
     go : (g : MessageResult) → withMessage marked f k [] s letters g ≡ read m e o → o ≡ length letters
-    go (message n) q = judging n (judged (segment marked f n) (take (length letters) letters)) q
+    go (message n) q = judging n (judged (segment marked f n) (take (length letters) s)) q
     go (MessageResult.lost step) q = let z : _≡_ {A = ℕ} 0 1 = cc in absurd (omega arith)
 
 pieces : List Outcome → List ℕ
@@ -92,6 +92,7 @@ mark-counts (Read None) = refl
 mark-counts (Read (Sub i x)) = refl
 mark-counts (Read (Del i x)) = refl
 mark-counts (Read (Ins i x)) = refl
+mark-counts Unknown = refl
 mark-counts (Lost step) = refl
 mark-counts NoStart = refl
 
@@ -100,14 +101,24 @@ unfolding countOf
 counts-add-up [] = refl
 counts-add-up (o ∷ os) = omega (arith, mark-counts (o .verdict), counts-add-up os)
 
+-- a piece without an N changes nothing of what is said
+pub told-known : (v : Verdict) (piece : List ℕ) → hasUnknown piece ≡ false → told v piece ≡ v
+told-known (Read None) piece h = rw h
+told-known (Read (Sub i x)) piece h = refl
+told-known (Read (Del i x)) piece h = refl
+told-known (Read (Ins i x)) piece h = refl
+told-known Unknown piece h = refl
+told-known (Lost step) piece h = refl
+told-known NoStart piece h = refl
+
 -- What a scan finds
 
-pub start-clean : (k : ℕ) (s letters os : List ℕ) (o : ℕ) → firstStart k s letters os ≡ some o → clean k (getD s (o - 1) 0) (drop o letters) ≡ true
+pub start-clean : (k : ℕ) (s letters os : List ℕ) (o : ℕ) → firstStart k s letters os ≡ some o → clean k (getD s (o - 1) 0) (drop o s) (drop o letters) ≡ true
 unfolding firstStart
 start-clean k s letters [] o e = let z : _≡_ {A = ℕ} 0 1 = cc in absurd (omega arith)
-start-clean k s letters (x ∷ os) o e = go (clean k (getD s (x - 1) 0) (drop x letters)) refl e (λ q. start-clean k s letters os o q)
+start-clean k s letters (x ∷ os) o e = go (clean k (getD s (x - 1) 0) (drop x s) (drop x letters)) refl e (λ q. start-clean k s letters os o q)
   where
-    go : (b : Bool) → clean k (getD s (x - 1) 0) (drop x letters) ≡ b → cond b (some x) (firstStart k s letters os) ≡ some o → (firstStart k s letters os ≡ some o → clean k (getD s (o - 1) 0) (drop o letters) ≡ true) → clean k (getD s (o - 1) 0) (drop o letters) ≡ true
+    go : (b : Bool) → clean k (getD s (x - 1) 0) (drop x s) (drop x letters) ≡ b → cond b (some x) (firstStart k s letters os) ≡ some o → (firstStart k s letters os ≡ some o → clean k (getD s (o - 1) 0) (drop o s) (drop o letters) ≡ true) → clean k (getD s (o - 1) 0) (drop o s) (drop o letters) ≡ true
     go true t q next = let i : x ≡ o = cc in rw (← i) t
     go false t q next = next q
 
@@ -118,7 +129,7 @@ segment-pre true f m = ap (λ (l : List ℕ). marker f m ∷ marker f m ∷ l) (
 segment-pre false f m = sym (append-assoc m (check m ∷ []) (ending m))
 
 -- a written segment is read, and it ends where it was written, with nothing behind it if it is the last
-clean-reads : (marked : Bool) (f : ℕ) (m r ks : List ℕ) → 2 ≤ length m → Below 4 m → Final ks r → Reads marked m ks (segment marked f m ++ r) (size marked (length m))
+clean-reads : (marked : Bool) (f : ℕ) (m r ks : List ℕ) → 2 ≤ length m → Below 4 m → Final ks r → Sees marked m ks (segment marked f m ++ r) (size marked (length m))
 clean-reads marked f m r ks two small last =
     let v = (m ++ check m ∷ []) ++ ending m in
     let t = message-edit m two small r None tt (λ q. q) in
@@ -128,12 +139,13 @@ clean-reads marked f m r ks two small last =
 
 -- its message is read
 pub clean-read-message : (marked : Bool) (f : ℕ) (m r : List ℕ) → 2 ≤ length m → Below 4 m → readMessage marked (length m) (segment marked f m ++ r) ≡ message m
-clean-read-message marked f m r two small = clean-reads marked f m r (0 ∷ []) two small (λ q. absurd (cons≢nil q)) .read-message-is
+clean-read-message marked f m r two small = clean-reads marked f m r (0 ∷ []) two small (λ q. absurd (cons≢nil q)) .reads .read-message-is
 
--- it counts as clean
-pub clean-read : (marked : Bool) (f : ℕ) (m r ks : List ℕ) → 2 ≤ length m → Below 4 m → Final ks r → readSegment marked f (length m) ks (segment marked f m ++ r) (segment marked f m ++ r) ≡ read m None (size marked (length m))
+-- it is read with no edit, whatever letters its symbols were
+pub clean-read : (marked : Bool) (f : ℕ) (m r ks letters : List ℕ) → 2 ≤ length m → Below 4 m → Final ks r → length letters ≡ length (segment marked f m ++ r) → readSegment marked f (length m) ks (segment marked f m ++ r) letters ≡ read m None (size marked (length m))
 unfolding readSegment judged
-clean-read marked f m r ks two small last =
+clean-read marked f m r ks letters two small last same =
     let w = segment marked f m in
     let g = clean-reads marked f m r ks two small last in
-    rw (g .read-message-is, g .end-is, take-at w r (size marked (length m)) (length-segment marked f m), same-refl w)
+    let end = sees-end marked m ks (w ++ r) letters (size marked (length m)) g same in
+    rw (g .reads .read-message-is, end, take-at w r (size marked (length m)) (length-segment marked f m), same-refl w)

@@ -1,17 +1,19 @@
 -- Laws of letters, symbols and bytes, in the order of their definitions.
 use mathlib.Core.Path.{_≡_, refl, sym, ap, _∙_}
-use mathlib.Core.Bool.{Bool, true, false, cond}
+use mathlib.Core.Bool.{Bool, true, false, cond, _||_}
 use mathlib.Core.List.{List, [], _∷_, _++_}
 use Prim.Native.Nat.{ℕ, zero, suc, _+_, _*_, _/_, _%_, _<_}
 use native.Mathlib.Omega.{arith}
-use borrow.Author.Tests.{eqb-true}
-use lib.Dec.{eqb}
+use borrow.Author.Tests.{eqb-true, le-ltb}
+use lib.Dec.{eqb, ltb}
 use lib.ListN.{length, getD, drop, length-map}
 use lib.Seq.{drop-nil}
 use Rattle.code.specs.declared.Letter.{Letter}
-use Rattle.code.specs.declared.Letter.the-variants.{Symbol, Foreign}
+use Rattle.code.specs.declared.Letter.the-variants.{Symbol, Unknown, Foreign}
+use Rattle.code.specs.declared.Decoded.{Decoded}
 use Rattle.code.specs.declared.Decoded.the-variants as D
-use Rattle.code.specs.Symbols.{Below, letterOf, symbolOf, letters, before, legible, unless, decodedFrom, decoded, symbolsOf, byteOf, symbols, bytes}
+use Rattle.code.specs.Symbols.{Below, unknown, letterKinds, letterOf, symbolOf, letters, before, legible, withUnknown, unless, decodedFrom, decoded, hasUnknown}
+use Rattle.code.specs.Symbols.{symbolsOf, byteOf, symbols, bytes}
 
 -- Letters
 
@@ -22,62 +24,114 @@ symbol-letter (suc (suc zero)) h = refl
 symbol-letter (suc (suc (suc zero))) h = refl
 symbol-letter (suc (suc (suc (suc s)))) h = absurd (omega arith)
 
--- s is a symbol and c its letter
+-- c is the letter of a symbol s
 pub record IsLetter (c s : ℕ) : Type 0 where
   pub letter : letterOf s ≡ c
   pub below : s < 4
 
-letter-test : (c s : ℕ) (a t k g : Bool) → eqb c 65 ≡ a → eqb c 84 ≡ t → eqb c 67 ≡ k → eqb c 71 ≡ g → cond a (Symbol 0) (cond t (Symbol 1) (cond k (Symbol 2) (cond g (Symbol 3) Foreign))) ≡ Symbol s → IsLetter c s
-letter-test c s true t k g p q r u e = let z : s ≡ 0 = cc in record { letter = rw z (sym (eqb-true c 65 p)); below = omega arith }
-letter-test c s false true k g p q r u e = let z : s ≡ 1 = cc in record { letter = rw z (sym (eqb-true c 84 q)); below = omega arith }
-letter-test c s false false true g p q r u e = let z : s ≡ 2 = cc in record { letter = rw z (sym (eqb-true c 67 r)); below = omega arith }
-letter-test c s false false false true p q r u e = let z : s ≡ 3 = cc in record { letter = rw z (sym (eqb-true c 71 u)); below = omega arith }
-letter-test c s false false false false p q r u e = let z : _≡_ {A = ℕ} 0 1 = cc in absurd (omega arith)
+letter-test : (c s : ℕ) (a t k g n : Bool) → eqb c 65 ≡ a → eqb c 84 ≡ t → eqb c 67 ≡ k → eqb c 71 ≡ g → cond a (Symbol 0) (cond t (Symbol 1) (cond k (Symbol 2) (cond g (Symbol 3) (cond n Unknown Foreign)))) ≡ Symbol s → IsLetter c s
+letter-test c s true t k g n p q r u e = let z : s ≡ 0 = cc in record { letter = rw z (sym (eqb-true c 65 p)); below = omega arith }
+letter-test c s false true k g n p q r u e = let z : s ≡ 1 = cc in record { letter = rw z (sym (eqb-true c 84 q)); below = omega arith }
+letter-test c s false false true g n p q r u e = let z : s ≡ 2 = cc in record { letter = rw z (sym (eqb-true c 67 r)); below = omega arith }
+letter-test c s false false false true n p q r u e = let z : s ≡ 3 = cc in record { letter = rw z (sym (eqb-true c 71 u)); below = omega arith }
+letter-test c s false false false false true p q r u e = let z : _≡_ {A = ℕ} 0 1 = cc in absurd (omega arith)
+letter-test c s false false false false false p q r u e = let z : _≡_ {A = ℕ} 0 1 = cc in absurd (omega arith)
 
 -- a letter with its symbol
 pub letter-symbol : (c s : ℕ) → symbolOf c ≡ Symbol s → IsLetter c s
-letter-symbol c s e = letter-test c s _ _ _ _ refl refl refl refl e
+letter-symbol c s e = letter-test c s _ _ _ _ (eqb c 78) refl refl refl refl e
+
+unknown-test : (c : ℕ) (a t k g n : Bool) → eqb c 78 ≡ n → cond a (Symbol 0) (cond t (Symbol 1) (cond k (Symbol 2) (cond g (Symbol 3) (cond n Unknown Foreign)))) ≡ Unknown → c ≡ letterOf unknown
+unknown-test c true t k g n p e = let z : _≡_ {A = ℕ} 0 1 = cc in absurd (omega arith)
+unknown-test c false true k g n p e = let z : _≡_ {A = ℕ} 0 1 = cc in absurd (omega arith)
+unknown-test c false false true g n p e = let z : _≡_ {A = ℕ} 0 1 = cc in absurd (omega arith)
+unknown-test c false false false true n p e = let z : _≡_ {A = ℕ} 0 1 = cc in absurd (omega arith)
+unknown-test c false false false false true p e = eqb-true c 78 p
+unknown-test c false false false false false p e = let z : _≡_ {A = ℕ} 0 1 = cc in absurd (omega arith)
+
+-- N alone is unknown
+pub letter-unknown : (c : ℕ) → symbolOf c ≡ Unknown → c ≡ letterOf unknown
+letter-unknown c e = unknown-test c (eqb c 65) (eqb c 84) (eqb c 67) (eqb c 71) _ refl e
 
 -- Strands
 
-before-below : (c : ℕ) (l : Letter) (m : List ℕ) → symbolOf c ≡ l → Below 4 m → Below 4 (before l m)
-before-below c (Symbol s) m e h zero = letter-symbol c s e .below
+before-below : (c : ℕ) (l : Letter) (m : List ℕ) → symbolOf c ≡ l → Below letterKinds m → Below letterKinds (before l m)
+before-below c (Symbol s) m e h zero = omega (arith, letter-symbol c s e .below)
 before-below c (Symbol s) m e h (suc i) = h i
+before-below c Unknown m e h zero = omega arith
+before-below c Unknown m e h (suc i) = h i
 before-below c Foreign m e h i = omega arith
 
-pub legible-below : (cs : List ℕ) → Below 4 (legible cs)
+pub legible-below : (cs : List ℕ) → Below letterKinds (legible cs)
 unfolding legible
 legible-below [] i = omega arith
 legible-below (c ∷ cs) i = before-below c (symbolOf c) (legible cs) refl (legible-below cs) i
 
-pub legible-letters : (m : List ℕ) → Below 4 m → legible (letters m) ≡ m
+-- the letter of a number below 5, before others
+before-letter : (x : ℕ) (m : List ℕ) → x < letterKinds → before (symbolOf (letterOf x)) m ≡ x ∷ m
+before-letter zero m h = refl
+before-letter (suc zero) m h = refl
+before-letter (suc (suc zero)) m h = refl
+before-letter (suc (suc (suc zero))) m h = refl
+before-letter (suc (suc (suc (suc zero)))) m h = refl
+before-letter (suc (suc (suc (suc (suc x))))) m h = absurd (omega arith)
+
+pub legible-letters : (m : List ℕ) → Below letterKinds m → legible (letters m) ≡ m
 unfolding legible
 legible-letters [] h = refl
-legible-letters (s ∷ m) h = rw (symbol-letter s (h 0), legible-letters m (λ i. h (suc i)))
+legible-letters (x ∷ m) h = before-letter x (legible (letters m)) (h 0) ∙ ap (λ (l : List ℕ). x ∷ l) (legible-letters m (λ i. h (suc i)))
 
-whole-from : (i : ℕ) (m : List ℕ) → Below 4 m → decodedFrom i (letters m) ≡ D.Whole
-unfolding decodedFrom
+unless-letter : (x i : ℕ) (b : Bool) → x < letterKinds → unless (symbolOf (letterOf x)) i (D.Whole b) ≡ D.Whole (ltb 3 x || b)
+unless-letter zero i b h = refl
+unless-letter (suc zero) i b h = refl
+unless-letter (suc (suc zero)) i b h = refl
+unless-letter (suc (suc (suc zero))) i b h = refl
+unless-letter (suc (suc (suc (suc zero)))) i b h = refl
+unless-letter (suc (suc (suc (suc (suc x))))) i b h = absurd (omega arith)
+
+whole-from : (i : ℕ) (m : List ℕ) → Below letterKinds m → decodedFrom i (letters m) ≡ D.Whole (hasUnknown m)
+unfolding decodedFrom hasUnknown
 whole-from i [] h = refl
-whole-from i (s ∷ m) h = rw (symbol-letter s (h 0)) (whole-from (suc i) m (λ j. h (suc j)))
+whole-from i (x ∷ m) h = rw (whole-from (suc i) m (λ j. h (suc j))) (unless-letter x i (hasUnknown m) (h 0))
 
-pub decoded-letters : (m : List ℕ) → Below 4 m → decoded (letters m) ≡ D.Whole
+pub decoded-letters : (m : List ℕ) → Below letterKinds m → decoded (letters m) ≡ D.Whole (hasUnknown m)
 decoded-letters m h = whole-from 0 m h
 
-letters-from : (i : ℕ) (cs : List ℕ) → decodedFrom i cs ≡ D.Whole → letters (legible cs) ≡ cs
-unfolding decodedFrom legible
-letters-from i [] e = refl
-letters-from i (c ∷ cs) e = go (symbolOf c) refl e (letters-from (suc i) cs)
+-- letters throughout, as numbers
+pub record Legible (cs : List ℕ) (b : Bool) : Type 0 where
+  pub letters-are : letters (legible cs) ≡ cs
+  pub unknown-is : hasUnknown (legible cs) ≡ b
+
+symbol-known : (s : ℕ) → s < 4 → ltb 3 s ≡ false
+symbol-known s h = le-ltb 3 s (omega arith)
+
+legible-from : (i : ℕ) (cs : List ℕ) (b : Bool) → decodedFrom i cs ≡ D.Whole b → Legible cs b
+unfolding decodedFrom legible hasUnknown
+legible-from i [] b e = let z : false ≡ b = cc in record { letters-are = refl; unknown-is = z }
+legible-from i (c ∷ cs) b e = go (symbolOf c) refl (decodedFrom (suc i) cs) refl e (legible-from (suc i) cs)
   where
-    go : (l : Letter) → symbolOf c ≡ l → unless l i (decodedFrom (suc i) cs) ≡ D.Whole → (decodedFrom (suc i) cs ≡ D.Whole → letters (legible cs) ≡ cs) → letters (before l (legible cs)) ≡ c ∷ cs
-    go (Symbol s) p q next = rw (letter-symbol c s p .letter, next q)
-    go Foreign p q next = let z : _≡_ {A = ℕ} 0 1 = cc in absurd (omega arith)
+    go : (l : Letter) → symbolOf c ≡ l → (d : Decoded) → decodedFrom (suc i) cs ≡ d → unless l i d ≡ D.Whole b → ((x : Bool) → decodedFrom (suc i) cs ≡ D.Whole x → Legible cs x) → Legible (c ∷ cs) b
+    go (Symbol s) p d r q next =
+        let g = next b (r ∙ q) in
+        let t = letter-symbol c s p in
+        record { letters-are = rw (p, t .letter, g .letters-are); unknown-is = rw (p, symbol-known s (t .below), g .unknown-is) }
+    go Unknown p (D.Whole x) r q next =
+        let g = next x r in
+        let z : true ≡ b = cc in
+        record { letters-are = rw (p, g .letters-are) (ap (λ (y : ℕ). y ∷ cs) (sym (letter-unknown c p))); unknown-is = rw p z }
+    go Unknown p (D.Foreign j) r q next = let z : _≡_ {A = ℕ} 0 1 = cc in absurd (omega arith)
+    go Foreign p d r q next = let z : _≡_ {A = ℕ} 0 1 = cc in absurd (omega arith)
 
--- a strand of letters throughout is the letters of its symbols
-pub whole-letters : (cs : List ℕ) → decoded cs ≡ D.Whole → letters (legible cs) ≡ cs
-whole-letters cs e = letters-from 0 cs e
+-- a strand of letters throughout is the letters of its numbers
+pub whole-letters : (cs : List ℕ) (b : Bool) → decoded cs ≡ D.Whole b → letters (legible cs) ≡ cs
+whole-letters cs b e = legible-from 0 cs b e .letters-are
 
-pub whole-length : (cs : List ℕ) → decoded cs ≡ D.Whole → length (legible cs) ≡ length cs
-whole-length cs e = sym (length-map (legible cs) letterOf) ∙ ap length (whole-letters cs e)
+-- it tells whether an N is among them
+pub whole-unknown : (cs : List ℕ) (b : Bool) → decoded cs ≡ D.Whole b → hasUnknown (legible cs) ≡ b
+whole-unknown cs b e = legible-from 0 cs b e .unknown-is
+
+pub whole-length : (cs : List ℕ) (b : Bool) → decoded cs ≡ D.Whole b → length (legible cs) ≡ length cs
+whole-length cs b e = sym (length-map (legible cs) letterOf) ∙ ap length (whole-letters cs b e)
 
 -- i is the first place of cs that holds no letter
 pub record FirstForeign (i : ℕ) (cs : List ℕ) : Type 0 where
@@ -87,9 +141,9 @@ pub record FirstForeign (i : ℕ) (cs : List ℕ) : Type 0 where
   pub legible-length : length (legible cs) ≡ i
 
 -- a letter before a strand whose first n bytes are letters
-letters-before : (c s : ℕ) (cs : List ℕ) (n : ℕ) → symbolOf c ≡ Symbol s → ((j : ℕ) → j < n → symbolOf (getD cs j 0) ≡ Foreign → ⊥) → (j : ℕ) → j < suc n → symbolOf (getD (c ∷ cs) j 0) ≡ Foreign → ⊥
-letters-before c s cs n p before zero h e = let z : _≡_ {A = ℕ} 0 1 = cc in omega arith
-letters-before c s cs n p before (suc j) h e = before j (omega arith) e
+letters-before : (c : ℕ) (cs : List ℕ) (n : ℕ) → (symbolOf c ≡ Foreign → ⊥) → ((j : ℕ) → j < n → symbolOf (getD cs j 0) ≡ Foreign → ⊥) → (j : ℕ) → j < suc n → symbolOf (getD (c ∷ cs) j 0) ≡ Foreign → ⊥
+letters-before c cs n p before zero h e = p e
+letters-before c cs n p before (suc j) h e = before j (omega arith) e
 
 -- a first foreign place of cs, where the first byte stands at place k
 record ForeignFrom (k i : ℕ) (cs : List ℕ) : Type 0 where
@@ -100,22 +154,27 @@ record ForeignFrom (k i : ℕ) (cs : List ℕ) : Type 0 where
 foreign-from : (k i : ℕ) (cs : List ℕ) → decodedFrom k cs ≡ D.Foreign i → ForeignFrom k i cs
 unfolding decodedFrom legible
 foreign-from k i [] e = let z : _≡_ {A = ℕ} 0 1 = cc in absurd (omega arith)
-foreign-from k i (c ∷ cs) e = go (symbolOf c) refl e (foreign-from (suc k) i cs)
+foreign-from k i (c ∷ cs) e = go (symbolOf c) refl (decodedFrom (suc k) cs) refl e (foreign-from (suc k) i cs)
   where
-    go : (l : Letter) → symbolOf c ≡ l → unless l k (decodedFrom (suc k) cs) ≡ D.Foreign i → (decodedFrom (suc k) cs ≡ D.Foreign i → ForeignFrom (suc k) i cs) → ForeignFrom k i (c ∷ cs)
-    go (Symbol s) p q next =
-        let f = next q in
+    -- a letter before
+    passed : (symbolOf c ≡ Foreign → ⊥) → length (before (symbolOf c) (legible cs)) ≡ suc (length (legible cs)) → ForeignFrom (suc k) i cs → ForeignFrom k i (c ∷ cs)
+    passed p n f =
         record {
           place = suc (f .place);
           offset = omega arith;
           first = record {
             inside = omega arith;
             foreign = f .first .foreign;
-            letter = letters-before c s cs (f .place) p (f .first .letter);
-            legible-length = rw p (ap suc (f .first .legible-length));
+            letter = letters-before c cs (f .place) p (f .first .letter);
+            legible-length = n ∙ ap suc (f .first .legible-length);
           };
         }
-    go Foreign p q next =
+
+    go : (l : Letter) → symbolOf c ≡ l → (d : Decoded) → decodedFrom (suc k) cs ≡ d → unless l k d ≡ D.Foreign i → (decodedFrom (suc k) cs ≡ D.Foreign i → ForeignFrom (suc k) i cs) → ForeignFrom k i (c ∷ cs)
+    go (Symbol s) p d r q next = passed (λ x. let z : _≡_ {A = ℕ} 0 1 = cc in omega arith) (rw p) (next (r ∙ q))
+    go Unknown p (D.Whole x) r q next = let z : _≡_ {A = ℕ} 0 1 = cc in absurd (omega arith)
+    go Unknown p (D.Foreign j) r q next = passed (λ x. let z : _≡_ {A = ℕ} 0 1 = cc in omega arith) (rw p) (next (r ∙ q))
+    go Foreign p d r q next =
         let z : i ≡ k = cc in
         record { place = 0; offset = omega arith; first = record { inside = omega arith; foreign = p; letter = λ j h. absurd (omega arith); legible-length = rw p } }
 

@@ -5,6 +5,7 @@
 --   number-fits        a number fits 24 bits
 --   judged-numbered    the edit that step 9 names
 --   read-numbered      what is said of a segment that is read
+--   told-numbered      what is said of its piece
 --   lost-numbered      the step that loses a segment
 --   AllNumbered        verdicts that their numbers give back
 --   outcomes-numbered  those of a reading
@@ -19,19 +20,20 @@ use lib.ListN.{length, getD, take, drop}
 use Rattle.code.specs.declared.Edit.{Edit}
 use Rattle.code.specs.declared.Edit.the-variants.{None, Sub, Del, Ins}
 use Rattle.code.specs.declared.Verdict.{Verdict}
-use Rattle.code.specs.declared.Verdict.the-variants.{Read, Lost, NoStart}
-use Rattle.code.specs.Symbols.{Below}
+use Rattle.code.specs.declared.Verdict.the-variants.{Read, Unknown, Lost, NoStart}
+use Rattle.code.specs.Symbols.{Below, asSymbols, hasUnknown}
+use Rattle.code.specs.laws.Letters.{as-below}
 use Rattle.code.specs.laws.Below.{below-take, below-drop}
 use Rattle.code.specs.laws.Layers.{width-least}
 use Rattle.code.specs.Segment.{segment, lastOf, size}
 use Rattle.code.specs.laws.Segment.{length-segment, segment-below}
 use Rattle.code.specs.Layout.{Lengths, done, more}
-use Rattle.code.specs.Bounds.{longest, reach, Received}
+use Rattle.code.specs.Bounds.{longest, reach}
 use Rattle.code.specs.Verdicts.{numbered, verdictNumber, verdictOf, Numbered}
 use Rattle.code.specs.Edits.{applied, same, firstEdit, judged}
 use Rattle.code.specs.Reading.{MessageResult, message, readMessage, endOf, SegmentResult, read, withEdit, withEnd, withMessage, readSegment}
 use Rattle.code.specs.Sheet.{markOf, marksOf}
-use Rattle.code.specs.Strands.{Outcome, scan, unfound, lostAndRest, segmentAndRest, reading, outcomes, verdictsOf}
+use Rattle.code.specs.Strands.{told, Outcome, scan, unfound, lostAndRest, segmentAndRest, reading, outcomes, verdictsOf}
 use Rattle.code.specs.laws.MessageLengths.{read-segment-message, read-length}
 use Rattle.code.specs.laws.MessageBelow.{read-message-below}
 use Rattle.code.specs.laws.LostSteps.{KnownStep, read-message-stepped}
@@ -48,19 +50,21 @@ kind-of kind x i h = omega arith
 -- a number gives its verdict back
 pub verdict-back : (v : Verdict) → Numbered v → verdictOf (verdictNumber v) ≡ v
 verdict-back (Read None) h = refl
-verdict-back (Read (Sub i x)) h = let p = parts 1 x i (omega arith) (h .1) in rw (p .0, p .1, p .2)
-verdict-back (Read (Del i x)) h = let p = parts 2 x i (omega arith) (h .1) in rw (p .0, p .1, p .2)
-verdict-back (Read (Ins i x)) h = let p = parts 3 x i (omega arith) (h .1) in rw (p .0, p .1, p .2)
-verdict-back (Lost step) h = let p = parts 4 step 0 (omega arith) h in rw (p .0, p .1)
+verdict-back (Read (Sub i x)) h = let p = parts 2 x i (omega arith) (h .1) in rw (p .0, p .1, p .2)
+verdict-back (Read (Del i x)) h = let p = parts 3 x i (omega arith) (h .1) in rw (p .0, p .1, p .2)
+verdict-back (Read (Ins i x)) h = let p = parts 4 x i (omega arith) (h .1) in rw (p .0, p .1, p .2)
+verdict-back Unknown h = refl
+verdict-back (Lost step) h = let p = parts 5 step 0 (omega arith) h in rw (p .0, p .1)
 verdict-back NoStart h = refl
 
 -- a number gives the mark of its verdict, whatever symbol or step it holds
 pub mark-back : (v : Verdict) → markOf (verdictOf (verdictNumber v)) ≡ markOf v
 mark-back (Read None) = refl
-mark-back (Read (Sub i x)) = rw (kind-of 1 x i (omega arith))
-mark-back (Read (Del i x)) = rw (kind-of 2 x i (omega arith))
-mark-back (Read (Ins i x)) = rw (kind-of 3 x i (omega arith))
-mark-back (Lost step) = rw (kind-of 4 step 0 (omega arith))
+mark-back (Read (Sub i x)) = rw (kind-of 2 x i (omega arith))
+mark-back (Read (Del i x)) = rw (kind-of 3 x i (omega arith))
+mark-back (Read (Ins i x)) = rw (kind-of 4 x i (omega arith))
+mark-back Unknown = refl
+mark-back (Lost step) = rw (kind-of 5 step 0 (omega arith))
 mark-back NoStart = refl
 
 pub marks-back : (vs : List Verdict) → marksOf (map verdictOf (map verdictNumber vs)) ≡ marksOf vs
@@ -73,6 +77,7 @@ number-fits (Read None) h = omega arith
 number-fits (Read (Sub i x)) h = omega (arith, h .0, h .1)
 number-fits (Read (Del i x)) h = omega (arith, h .0, h .1)
 number-fits (Read (Ins i x)) h = omega (arith, h .0, h .1)
+number-fits Unknown h = omega arith
 number-fits (Lost step) h = omega arith
 number-fits NoStart h = omega arith
 
@@ -116,11 +121,11 @@ module _ (w v : List ℕ) (w4 : Below 4 w) (v4 : Below 4 v) where
 -- One segment
 
 -- the edit of a segment that is read is that of step 9
-read-judged : (marked : Bool) (f k : ℕ) (ks s letters m : List ℕ) (e : Edit) (o : ℕ) → readSegment marked f k ks s letters ≡ read m e o → judged (segment marked f m) (take o letters) ≡ some e
+read-judged : (marked : Bool) (f k : ℕ) (ks s letters m : List ℕ) (e : Edit) (o : ℕ) → readSegment marked f k ks s letters ≡ read m e o → judged (segment marked f m) (take o s) ≡ some e
 unfolding readSegment
 read-judged marked f k ks s letters m e o t = go (readMessage marked k s) t
   where
-    judging : (n : List ℕ) (p : ℕ) (j : Option Edit) → judged (segment marked f n) (take p letters) ≡ j → withEdit n p j ≡ read m e o → judged (segment marked f m) (take o letters) ≡ some e
+    judging : (n : List ℕ) (p : ℕ) (j : Option Edit) → judged (segment marked f n) (take p s) ≡ j → withEdit n p j ≡ read m e o → judged (segment marked f m) (take o s) ≡ some e
     judging n p (some d) y q =
         let a : n ≡ m = cc in
         let b : p ≡ o = cc in
@@ -128,11 +133,11 @@ read-judged marked f k ks s letters m e o t = go (readMessage marked k s) t
         rw (← a, ← b, ← c) y
     judging n p none y q = let z : _≡_ {A = ℕ} 0 1 = cc in absurd (omega arith)
 
-    ending : (n : List ℕ) (p : Option ℕ) → withEnd marked f letters n p ≡ read m e o → judged (segment marked f m) (take o letters) ≡ some e
-    ending n (some p) q = judging n p (judged (segment marked f n) (take p letters)) refl q
+    ending : (n : List ℕ) (p : Option ℕ) → withEnd marked f s n p ≡ read m e o → judged (segment marked f m) (take o s) ≡ some e
+    ending n (some p) q = judging n p (judged (segment marked f n) (take p s)) refl q
     ending n none q = let z : _≡_ {A = ℕ} 0 1 = cc in absurd (omega arith)
 
-    go : (g : MessageResult) → withMessage marked f k ks s letters g ≡ read m e o → judged (segment marked f m) (take o letters) ≡ some e
+    go : (g : MessageResult) → withMessage marked f k ks s letters g ≡ read m e o → judged (segment marked f m) (take o s) ≡ some e
     go (message n) q = ending n (endOf marked k ks s letters n) q
     go (MessageResult.lost step) q = let z : _≡_ {A = ℕ} 0 1 = cc in absurd (omega arith)
 
@@ -143,12 +148,12 @@ size-within true k h = omega (arith, width-least k .least 9 (omega arith))
 size-within false k h = omega (arith, width-least k .least 9 (omega arith))
 
 -- what is said of a segment that is read
-pub read-numbered : (marked : Bool) (f k : ℕ) (ks s m : List ℕ) (e : Edit) (o : ℕ) → Below 4 s → 1 ≤ k → k ≤ longest → readSegment marked f k ks s s ≡ read m e o → Numbered (Read e)
-read-numbered marked f k ks s m e o small some-symbols short t =
-    let n : length m ≡ k = read-length marked f k ks s s m e o some-symbols t in
+pub read-numbered : (marked : Bool) (f k : ℕ) (ks s letters m : List ℕ) (e : Edit) (o : ℕ) → Below 4 s → 1 ≤ k → k ≤ longest → readSegment marked f k ks s letters ≡ read m e o → Numbered (Read e)
+read-numbered marked f k ks s letters m e o small some-symbols short t =
+    let n : length m ≡ k = read-length marked f k ks s letters m e o some-symbols t in
     let room : suc (length (segment marked f m)) ≤ reach = rw (length-segment marked f m, n) (size-within marked k short) in
-    let below = read-message-below marked k s m small (read-segment-message marked f k ks s s m e o t) in
-    judged-numbered (segment marked f m) (take o s) (segment-below marked f m below) (below-take o s small) e room (read-judged marked f k ks s s m e o t)
+    let below = read-message-below marked k s m small (read-segment-message marked f k ks s letters m e o t) in
+    judged-numbered (segment marked f m) (take o s) (segment-below marked f m below) (below-take o s small) e room (read-judged marked f k ks s letters m e o t)
 
 -- the step that loses a segment
 pub lost-numbered : (marked : Bool) (f k : ℕ) (ks s letters : List ℕ) (step : ℕ) → readSegment marked f k ks s letters ≡ SegmentResult.lost step → Numbered (Lost step)
@@ -159,8 +164,8 @@ lost-numbered marked f k ks s letters step t = go (readMessage marked k s) (read
     judging m o (some d) q = let z : _≡_ {A = ℕ} 0 1 = cc in absurd (omega arith)
     judging m o none q = let e : 9 ≡ step = cc in omega arith
 
-    ending : (m : List ℕ) (p : Option ℕ) → withEnd marked f letters m p ≡ SegmentResult.lost step → step < 16
-    ending m (some o) q = judging m o (judged (segment marked f m) (take o letters)) q
+    ending : (m : List ℕ) (p : Option ℕ) → withEnd marked f s m p ≡ SegmentResult.lost step → step < 16
+    ending m (some o) q = judging m o (judged (segment marked f m) (take o s)) q
     ending m none q = let e : 8 ≡ step = cc in omega arith
 
     go : (g : MessageResult) → KnownStep g → withMessage marked f k ks s letters g ≡ SegmentResult.lost step → step < 16
@@ -178,31 +183,45 @@ unfound-numbered : (ks : List ℕ) → AllNumbered (verdictsOf (map unfound ks))
 unfound-numbered [] = tt
 unfound-numbered (k ∷ ks) = (tt, unfound-numbered ks)
 
-reading-numbered : (marked : Bool) (f : ℕ) (ks s : List ℕ) → Below 4 s → Lengths longest ks → AllNumbered (verdictsOf (reading marked f ks s s))
+-- so is what is said of its piece
+pub told-numbered : (v : Verdict) (piece : List ℕ) → Numbered v → Numbered (told v piece)
+told-numbered (Read None) piece h = go (hasUnknown piece)
+  where
+    go : (b : Bool) → Numbered (cond b Unknown (Read None))
+    go true = tt
+    go false = tt
+told-numbered (Read (Sub i x)) piece h = h
+told-numbered (Read (Del i x)) piece h = h
+told-numbered (Read (Ins i x)) piece h = h
+told-numbered Unknown piece h = h
+told-numbered (Lost step) piece h = h
+told-numbered NoStart piece h = h
+
+reading-numbered : (marked : Bool) (f : ℕ) (ks s letters : List ℕ) → Below 4 s → Lengths longest ks → AllNumbered (verdictsOf (reading marked f ks s letters))
 unfolding reading
-reading-numbered marked f [] s small done = tt
-reading-numbered marked f (k ∷ ks) s small (more two short ls) =
-    go (readSegment marked f k ks s s) refl (λ g o. reading-numbered true g ks (drop o s) (below-drop o s small) ls)
+reading-numbered marked f [] s letters small done = tt
+reading-numbered marked f (k ∷ ks) s letters small (more two short ls) =
+    go (readSegment marked f k ks s letters) refl (λ g o. reading-numbered true g ks (drop o s) (drop o letters) (below-drop o s small) ls)
   where
     next : ℕ → ℕ → List Outcome
-    next g o = reading true g ks (drop o s) (drop o s)
+    next g o = reading true g ks (drop o s) (drop o letters)
 
-    scanned : (step : ℕ) (o : Option ℕ) → step < 16 → ((g o : ℕ) → AllNumbered (verdictsOf (next g o))) → AllNumbered (verdictsOf (lostAndRest k ks s s step next o))
+    scanned : (step : ℕ) (o : Option ℕ) → step < 16 → ((g o : ℕ) → AllNumbered (verdictsOf (next g o))) → AllNumbered (verdictsOf (lostAndRest k ks s letters step next o))
     scanned step (some o) l h = (l, h (getD s (o - 1) 0) o)
     scanned step none l h = (l, unfound-numbered ks)
 
-    go : (r : SegmentResult) → readSegment marked f k ks s s ≡ r → ((g o : ℕ) → AllNumbered (verdictsOf (next g o))) → AllNumbered (verdictsOf (segmentAndRest marked k ks s s next r))
-    go (read m e o) q h = (read-numbered marked f k ks s m e o small (omega arith) short q, h (lastOf m) o)
-    go (SegmentResult.lost step) q h = scanned step (scan (size marked k) ks s s) (lost-numbered marked f k ks s s step q) h
+    go : (r : SegmentResult) → readSegment marked f k ks s letters ≡ r → ((g o : ℕ) → AllNumbered (verdictsOf (next g o))) → AllNumbered (verdictsOf (segmentAndRest marked k ks s letters next r))
+    go (read m e o) q h = (told-numbered (Read e) (take o letters) (read-numbered marked f k ks s letters m e o small (omega arith) short q), h (lastOf m) o)
+    go (SegmentResult.lost step) q h = scanned step (scan (size marked k) ks s letters) (lost-numbered marked f k ks s letters step q) h
 
--- every verdict of a reading within the limits has a number
-pub outcomes-numbered : (ks s : List ℕ) → Received s → Lengths longest ks → AllNumbered (verdictsOf (outcomes ks s))
-outcomes-numbered ks s received lengths = reading-numbered false 0 ks s (received .symbols) lengths
+-- every verdict of a reading has a number
+pub outcomes-numbered : (ks letters : List ℕ) → Lengths longest ks → AllNumbered (verdictsOf (outcomes ks letters))
+outcomes-numbered ks letters lengths = reading-numbered false 0 ks (asSymbols letters) letters (as-below letters) lengths
 
 all-back : (vs : List Verdict) → AllNumbered vs → map verdictOf (map verdictNumber vs) ≡ vs
 all-back [] h = refl
 all-back (v ∷ vs) h = rw (verdict-back v (h .0), all-back vs (h .1))
 
 -- the numbers of a reading's verdicts give the verdicts back
-pub verdicts-back : (ks s : List ℕ) → Received s → Lengths longest ks → map verdictOf (map verdictNumber (verdictsOf (outcomes ks s))) ≡ verdictsOf (outcomes ks s)
-verdicts-back ks s received lengths = all-back (verdictsOf (outcomes ks s)) (outcomes-numbered ks s received lengths)
+pub verdicts-back : (ks letters : List ℕ) → Lengths longest ks → map verdictOf (map verdictNumber (verdictsOf (outcomes ks letters))) ≡ verdictsOf (outcomes ks letters)
+verdicts-back ks letters lengths = all-back (verdictsOf (outcomes ks letters)) (outcomes-numbered ks letters lengths)

@@ -14,7 +14,7 @@ use lib.Pow.{pow-pos}
 use Rattle.code.specs.declared.Edit.{Edit}
 use Rattle.code.specs.declared.Edit.the-variants.{None, Sub, Del, Ins}
 use Rattle.code.specs.declared.Decoded.the-variants as D
-use Rattle.code.specs.Symbols.{Below, symbols, letters, decoded}
+use Rattle.code.specs.Symbols.{Below, letterKinds, symbols, letters, decoded, hasUnknown}
 use Rattle.code.specs.laws.Symbols.{symbols-below, length-symbols, decoded-letters}
 use Rattle.code.specs.laws.Below.{below-append}
 use Rattle.code.specs.Layers.{width}
@@ -37,11 +37,11 @@ applied-length (Sub i x) w = simp length-set (omega arith)
 applied-length (Del i x) w = simp (length-append, length-take, length-drop) (omega arith)
 applied-length (Ins i x) w = simp (length-append, length-take, length-drop) (omega arith)
 
-applied-below : (e : Edit) (w : List ℕ) → Fits e (length w) → Below 4 w → Below 4 (applied e w)
-applied-below None w f h = h
-applied-below (Sub i x) w f h = below-set i x w (f .1) h
-applied-below (Del i x) w f h = below-leave i w h
-applied-below (Ins i x) w f h = below-put i x w (f .1) h
+pub applied-below : (q : ℕ) (e : Edit) (w : List ℕ) → Fits q e (length w) → Below q w → Below q (applied e w)
+applied-below q None w f h = h
+applied-below q (Sub i x) w f h = below-set i x w (f .1) h
+applied-below q (Del i x) w f h = below-leave i w h
+applied-below q (Ins i x) w f h = below-put i x w (f .1) h
 
 received-length : (marked : Bool) (f : ℕ) (ms : List (List ℕ)) (es : List Edit) → length (received marked f ms es) ≤ extent marked (map length ms) + length ms
 unfolding received extent
@@ -49,12 +49,12 @@ received-length marked f [] es = omega arith
 received-length marked f (m ∷ ms) [] = omega arith
 received-length marked f (m ∷ ms) (e ∷ es) = simp length-append (omega (arith, applied-length e (segment marked f m), length-segment marked f m, received-length true (lastOf m) ms es))
 
-received-below : (marked : Bool) (f : ℕ) (ms : List (List ℕ)) (es : List Edit) → Each (Below 4) ms → Allowed marked f ms es → Below 4 (received marked f ms es)
+received-below : (marked : Bool) (f : ℕ) (ms : List (List ℕ)) (es : List Edit) → Each (Below 4) ms → Allowed marked f ms es → Below letterKinds (received marked f ms es)
 unfolding received
 received-below marked f [] es none h = λ i. omega arith
 received-below marked f (m ∷ ms) [] (both b bs) h = absurd h
 received-below marked f (m ∷ ms) (e ∷ es) (both b bs) h =
-    below-append (applied e (segment marked f m)) (received true (lastOf m) ms es) (applied-below e (segment marked f m) (h .0) (segment-below marked f m b))
+    below-append (applied e (segment marked f m)) (received true (lastOf m) ms es) (applied-below letterKinds e (segment marked f m) (h .0) (λ i. omega (arith, segment-below marked f m b i)))
     (received-below true (lastOf m) ms es bs (h .2))
 
 -- a power of two is above a line
@@ -96,8 +96,8 @@ extent-most o other h = go (o .lengths) (h .lengths) (h .some-segments) (h .most
 -- what a strand that keeps the conditions is, for an order within the limits
 pub record Readable (s : List ℕ) : Type 0 where
   pub short : length s ≤ mostWritten + mostSegments
-  pub small : Below 4 s
-  pub no-foreign : decoded (letters s) ≡ D.Whole
+  pub small : Below letterKinds s
+  pub no-foreign : decoded (letters s) ≡ D.Whole (hasUnknown s)
 
 pub readable : (o : Order) (other : Bool) (bs s : List ℕ) → Ordered o other → length bs ≡ o .b → OneEdit (cut (o .lengths) (symbols bs)) s → Readable s
 readable o other bs s h n e =
@@ -107,5 +107,5 @@ readable o other bs s h n e =
     let w = received-length false 0 (cut ks x) (e .edits) in
     let c = cut-lengths ks x l in
     let r : length (received false 0 (cut ks x) (e .edits)) ≤ extent false ks + length ks = omega (arith, w, ap (extent false) c, length-cut ks x) in
-    let d : Below 4 s = rw (e .stretches) at (received-below false 0 (cut ks x) (e .edits) (cut-below ks x (symbols-below bs)) (e .allowed)) in
+    let d : Below letterKinds s = rw (e .stretches) at (received-below false 0 (cut ks x) (e .edits) (cut-below ks x (symbols-below bs)) (e .allowed)) in
     record { short = omega (arith, r, extent-most o other h, h .most-segments, ap length (e .stretches)); small = d; no-foreign = decoded-letters s d }

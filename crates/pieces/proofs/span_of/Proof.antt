@@ -2,6 +2,7 @@ use mathlib.Core.Path.{sym, _∙_}
 use mathlib.Core.Bool.{false}
 use native.Mathlib.Omega.{arith}
 use borrow.Author.Needs.{needs}
+use Rattle.code.specs.Symbols.{asSymbols}
 use Rattle.code.specs.laws.Layout.{lengths-within}
 use Rattle.code.specs.Order.{Order, order}
 use Rattle.code.specs.laws.Order.{Ordered, order-fine}
@@ -42,7 +43,7 @@ read-layout-requires c κs =
     let b = c .before .before .before .before .before in
     let o = ordered b in
     let n = lent-entries (order-of b) (b .pre .1 .0) in
-    ((b .pre .0, lengths-within (o .lengths) (omega arith)), (lent-symbols (order-of b) (b .pre .1 .0) ∙ sym (o .whole), n, n))
+    ((b .pre .0 .0, lengths-within (o .lengths) (omega arith), b .pre .0 .1), (lent-symbols (order-of b) (b .pre .1 .0) ∙ sym (o .whole), n, n))
 
 mul-end : tie.Need-mul-end
 mul-end c = let o = ordered (c .before .before .before .before .before .before .before .before .before) in search needs
@@ -54,19 +55,19 @@ returns : tie.Need-returns
 returns c =
     let b = c .before .before .before .before .before .before .before .before .before .before in
     let a = b .args in
-    first-span _ _ (outcomes (a .lengths .now) (a .s .now)) (c .before .before .before .before .read-layout .ensures .1 .1) (a .i) (c .if1 .taken) (rw (length-reading false 0 (a .lengths .now) (a .s .now) (a .s .now)) (b .pre .1 .1))
+    first-span _ _ (outcomes (a .lengths .now) (a .letters .now)) (c .before .before .before .before .read-layout .ensures .1 .1) (a .i) (c .if1 .taken) (rw (length-reading false 0 (a .lengths .now) (asSymbols (a .letters .now)) (a .letters .now)) (b .pre .1 .1))
 
-mul-t21 : tie.Need-mul-t21
-mul-t21 c = let o = ordered (c .before .before .before .before .before .before .before .before .before .before) in search needs
+mul-t22 : tie.Need-mul-t22
+mul-t22 c = let o = ordered (c .before .before .before .before .before .before .before .before .before .before) in search needs
 
-array-read-t25 : tie.Need-array-read-t25
-array-read-t25 c = let o = ordered (c .before .before .before .before .before .before .before .before .before .before) in search needs
+array-read-t26 : tie.Need-array-read-t26
+array-read-t26 c = let o = ordered (c .before .before .before .before .before .before .before .before .before .before) in search needs
 
 returns-2 : tie.Need-returns-2
 returns-2 c =
     let b = c .before .before .before .before .before .before .before .before .before .before in
     let a = b .args in
-    later-span _ _ (outcomes (a .lengths .now) (a .s .now)) (c .before .before .before .before .read-layout .ensures .1 .1) (a .i) (c .if1 .left) (rw (length-reading false 0 (a .lengths .now) (a .s .now) (a .s .now)) (b .pre .1 .1))
+    later-span _ _ (outcomes (a .lengths .now) (a .letters .now)) (c .before .before .before .before .read-layout .ensures .1 .1) (a .i) (c .if1 .left) (rw (length-reading false 0 (a .lengths .now) (asSymbols (a .letters .now)) (a .letters .now)) (b .pre .1 .1))
 
 pub span-of-spec : {M : Type 1} → statement M
 span-of-spec =
@@ -84,6 +85,6 @@ span-of-spec =
     array-read-end
     returns
     (λ c. search needs)
-    mul-t21
-    array-read-t25
+    mul-t22
+    array-read-t26
     returns-2)

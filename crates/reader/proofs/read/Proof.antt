@@ -1,15 +1,15 @@
 use mathlib.Core.Path.{_≡_, sym, _∙_}
 use mathlib.Core.Bool.{false}
-use lib.ListN.{length, take}
-use lib.Seq.{length-take-le}
+use native.Mathlib.Omega.{arith}
+use lib.ListN.{length}
 use Rattle.code.specs.declared.Checked.the-variants.{Fine}
 use Rattle.code.specs.declared.Decoded.the-variants as D
-use Rattle.code.specs.Symbols.{legible, decoded}
+use Rattle.code.specs.Symbols.{decoded}
 use Rattle.code.specs.Order.{Order, order}
 use Rattle.code.specs.laws.Order.{order-fine}
 use Rattle.code.specs.ReadCall.{receivedTest, shortBuffers}
 use Rattle.code.specs.laws.ReadCall.{received-fine, received-refused, read-short, read-foreign, read-fine}
-use Rattle.symbols.proofs.Decoded.{decoded-inside, decoded-front, decoded-received}
+use Rattle.symbols.proofs.Decoded.{decoded-inside, decoded-front, decoded-length, decoded-unknown}
 use Rattle.reader.proofs.Calls.{read-is, promised}
 use borrow.Author.Needs.{needs}
 use Rattle.reader.proofs.read.Statement.{statement}
@@ -26,13 +26,9 @@ taken c = sym (c .before .before .received-test .ensures) ∙ c .enum-told .give
 not-short : (c : tie.Else1) → shortBuffers (order-of (c .before .before .before .before .before .before .before .before .before)) (length (c .before .before .before .before .before .before .before .before .before .args .message .now)) (length (c .before .before .before .before .before .before .before .before .before .args .sheet .now)) ≡ false
 not-short c = sym (c .before .short-buffers .ensures) ∙ c .if1 .left
 
--- test 6 is not met
-whole : (c : tie.After-enum-told2) → decoded (c .before .before .before .before .before .before .before .before .before .before .before .before .before .before .args .letters .now) ≡ D.Whole
-whole c = sym (c .before .before .before .decode .ensures .0) ∙ c .enum-told2 .given .1
-
--- the symbols of the letters
-front : (c : tie.After-enum-told2) → take (length (c .before .before .before .before .before .before .before .before .before .before .before .before .before .before .args .letters .now)) (c .before .before .before .decode .last .1 .0) ≡ legible (c .before .before .before .before .before .before .before .before .before .before .before .before .before .before .args .letters .now)
-front c = decoded-front _ _ _ (c .before .before .before .decode .ensures .1) (whole c)
+-- test 6 is not met, and whether an N is among the letters
+whole : (c : tie.After-known-told2) → decoded (c .before .before .before .before .before .before .before .before .before .before .before .before .before .before .before .args .letters .now) ≡ D.Whole (c .before .decoded .given .0 .0)
+whole c = sym (c .before .before .before .before .decode .ensures .0) ∙ c .before .decoded .given .1
 
 returns : tie.Need-returns
 returns c =
@@ -57,32 +53,37 @@ decode-requires c κs =
     let b = c .before .before .before .before .before .before .before .before .before .before in
     received-fine (order-of b) (length (b .args .letters .now)) (taken (c .before .before .before)) .1
 
+array-share-prefix-legible : tie.Need-array-share-prefix-legible
+array-share-prefix-legible c = decoded-inside _ _ _ _ (c .before .before .before .before .decode .ensures .1) (whole c)
+
+slice-aggregate-read-letters : tie.Need-slice-aggregate-read-letters
+slice-aggregate-read-letters c = sym (decoded-length _ _ _ _ (c .before .before .before .before .before .decode .ensures .1) (whole (c .before)))
+
+read-letters-requires : tie.Need-read-letters-requires
+read-letters-requires c κs =
+    let b = c .before .before .before .before .before .before .before .before .before .before .before .before .before .before .before .before .before .before in
+    let l = b .args .letters .now in
+    let r = received-fine (order-of b) (length l) (taken (c .before .before .before .before .before .before .before .before .before .before .before)) in
+    let e = c .before .before .before .before .before .before .before .decode .ensures .1 in
+    let w = whole (c .before .before .before) in
+    ((omega (arith, decoded-length _ l _ _ e w, r .1), sym (decoded-unknown _ l _ _ e w)), (r .0, not-short (c .before .before .before .before .before .before .before .before .before)))
+
 returns-3 : tie.Need-returns-3
 returns-3 c =
-    let a = c .before .before .before .before .before .before .before .before .before .before .before .before .before .before .before .args in
-    let foreign = sym (c .before .before .before .before .decode .ensures .0) ∙ c .before .decoded .given .1 in
-    promised (order-of (c .before .before .before .before .before .before .before .before .before .before .before .before .before .before .before)) (a .letters .now) (a .message .now) (a .sheet .now) _
-    (rw (read-foreign (order-of (c .before .before .before .before .before .before .before .before .before .before .before .before .before .before .before)) (a .letters .now) (taken (c .before .before .before .before .before .before .before .before)) (length (a .message .now)) (length (a .sheet .now)) _ (not-short (c .before .before .before .before .before .before)) foreign))
-
-array-share-prefix-s : tie.Need-array-share-prefix-s
-array-share-prefix-s c = decoded-inside _ _ _ (c .before .before .before .decode .ensures .1) (whole c)
-
-slice-aggregate-read-symbols : tie.Need-slice-aggregate-read-symbols
-slice-aggregate-read-symbols c = sym (length-take-le _ _ (decoded-inside _ _ _ (c .before .before .before .before .decode .ensures .1) (whole (c .before))))
-
-read-symbols-requires : tie.Need-read-symbols-requires
-read-symbols-requires c κs =
-    let a = c .before .before .before .before .before .before .before .before .before .before .before .before .before .before .before .before .before .args in
-    let r = received-fine (order-of (c .before .before .before .before .before .before .before .before .before .before .before .before .before .before .before .before .before)) (length (a .letters .now)) (taken (c .before .before .before .before .before .before .before .before .before .before)) in
-    (decoded-received _ (a .letters .now) _ (c .before .before .before .before .before .before .decode .ensures .1) (whole (c .before .before .before)) (r .1), (r .0, not-short (c .before .before .before .before .before .before .before .before)))
+    let a = c .before .before .before .before .before .before .before .before .before .before .before .before .before .before .before .before .before .before .before .before .before .before .before .args in
+    let o = order-of (c .before .before .before .before .before .before .before .before .before .before .before .before .before .before .before .before .before .before .before .before .before .before .before) in
+    let w = whole (c .before .before .before .before .before .before .before .before) in
+    let t = read-fine o (a .letters .now) (taken (c .before .before .before .before .before .before .before .before .before .before .before .before .before .before .before .before)) (length (a .message .now)) (length (a .sheet .now)) _ (not-short (c .before .before .before .before .before .before .before .before .before .before .before .before .before .before)) w in
+    promised o (a .letters .now) (a .message .now) (a .sheet .now) _
+    (read-is o (a .letters .now) (a .message .now) (a .sheet .now) _ _ (decoded-front _ (a .letters .now) _ _ (c .before .before .before .before .before .before .before .before .before .before .before .before .decode .ensures .1) w) t (c .before .before .before .before .read-letters .ensures))
 
 returns-4 : tie.Need-returns-4
 returns-4 c =
-    let a = c .before .before .before .before .before .before .before .before .before .before .before .before .before .before .before .before .before .before .before .before .before .before .args in
-    let o = order-of (c .before .before .before .before .before .before .before .before .before .before .before .before .before .before .before .before .before .before .before .before .before .before) in
-    let t = read-fine o (a .letters .now) (taken (c .before .before .before .before .before .before .before .before .before .before .before .before .before .before .before)) (length (a .message .now)) (length (a .sheet .now)) (not-short (c .before .before .before .before .before .before .before .before .before .before .before .before .before)) (whole (c .before .before .before .before .before .before .before .before)) in
+    let a = c .before .before .before .before .before .before .before .before .before .before .before .before .before .before .before .args in
+    let o = order-of (c .before .before .before .before .before .before .before .before .before .before .before .before .before .before .before) in
+    let foreign = sym (c .before .before .before .before .decode .ensures .0) ∙ c .before .decoded2 .given .1 in
     promised o (a .letters .now) (a .message .now) (a .sheet .now) _
-    (read-is o (a .letters .now) (a .message .now) (a .sheet .now) _ _ (front (c .before .before .before .before .before .before .before .before)) t (c .before .before .before .before .read-symbols .ensures))
+    (rw (read-foreign o (a .letters .now) (taken (c .before .before .before .before .before .before .before .before)) (length (a .message .now)) (length (a .sheet .now)) _ (not-short (c .before .before .before .before .before .before)) foreign))
 
 pub read-spec : {M : Type 1} → statement M
 read-spec =
@@ -97,11 +98,11 @@ read-spec =
     (λ c. search needs)
     decode-requires
     (λ c. search needs)
+    array-share-prefix-legible
+    slice-aggregate-read-letters
+    read-letters-requires
+    (λ c. search needs)
+    (λ c. search needs)
+    (λ c. search needs)
     returns-3
-    (λ c. search needs)
-    array-share-prefix-s
-    slice-aggregate-read-symbols
-    read-symbols-requires
-    (λ c. search needs)
-    (λ c. search needs)
     returns-4)

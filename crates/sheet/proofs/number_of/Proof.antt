@@ -35,6 +35,7 @@ number-of-spec =
     let h = subst Numbered e (s .pre) in
     (omega arith, h .1, h .0))
     (λ c. search needs)
+    (λ c. search needs)
     (λ c κs.
     let s = c .before .before .before in
     let e : s .args .v ≡ Lost (c .before .v2 .given .0 .0) = cc in
@@ -53,6 +54,7 @@ number-of-spec =
     let g = c .before .before .e3 .given .0 in
     let e : c .before .before .before .before .before .before .before .args .v ≡ Read (Ins (g .0) (g .1 .0)) = cc in
     rw e (c .joined3 .ensures))
+    (λ c. search needs)
     (λ c.
     let e : c .before .before .before .before .args .v ≡ Lost (c .before .before .v2 .given .0 .0) = cc in
     rw e (c .joined4 .ensures))

@@ -19,7 +19,7 @@ verdict-of-spec =
     (λ c.
     let n = c .before .args .n in
     let kind : n % 8 ≡ 1 = omega (arith, mask-kind n) in
-    rw (kind, mask-symbol (n / 8)))
+    rw (kind))
     (λ c.
     let n = c .before .args .n in
     let kind : n % 8 ≡ 2 = omega (arith, mask-kind n) in
@@ -31,5 +31,9 @@ verdict-of-spec =
     (λ c.
     let n = c .before .args .n in
     let kind : n % 8 ≡ 4 = omega (arith, mask-kind n) in
+    rw (kind, mask-symbol (n / 8)))
+    (λ c.
+    let n = c .before .args .n in
+    let kind : n % 8 ≡ 5 = omega (arith, mask-kind n) in
     rw (kind, mask-symbol (n / 8)))
     (λ c. let n = c .before .args .n in kind-rest (n % 8) (n / 8 % 16) (n / 128) (omega (arith, mask-kind n))))

@@ -3,6 +3,7 @@ use Prim.Native.Nat.{_+_}
 use native.Mathlib.Omega.{arith}
 use borrow.Author.Needs.{needs}
 use lib.ListN.{length}
+use Rattle.code.specs.laws.Letters.{as-length}
 use Rattle.layers.specs.LayerSums.{sumsOf}
 use Rattle.message.proofs.Steps3to7.{part-is}
 use Rattle.message.proofs.ReceivedParts.{part-length}
@@ -16,20 +17,20 @@ use Rattle.steps.proofs.read_marked.Statement.{statement}
 use Rattle.steps.proofs.read_marked.Tie as tie
 
 lost-requires : tie.Need-lost-requires
-lost-requires c κs = let g = c .before .before .before .before .before .before .pre .0 in (g .received, ((g .start .inside, g .message), g .behind))
+lost-requires c κs = let g = c .before .before .before .before .before .before .before .pre .0 in (g .received, ((g .start .inside, g .message, g .read), g .behind))
 
 returns : tie.Need-returns
 returns c =
-    let b = c .before .before .before .before .before .before .before .before .before in
+    let b = c .before .before .before .before .before .before .before .before .before .before in
     let a = b .args in
     let k = length (a .out .now) in
     let d = c .before .before .before .before .before .data-at in
     let l = c .before .before .lost in
-    gives-lost (a .marked) (a .f) k (a .rest .now) (a .p) (a .s .now) 6 (l .last .1 .1 .1 .1 .1 .0) (l .result) (read-message-lost (a .marked) (a .f) k (a .rest .now) (a .p) (a .s .now) 6 (read-message-short (a .marked) k (a .p) (a .s .now) (a .p + d .result) (ap (_+_ (a .p)) (d .ensures .0)) (b .pre .1) (c .before .before .before .before .if1 .taken))) (l .ensures)
+    gives-lost (a .marked) (a .f) k (a .rest .now) (a .p) (a .s .now) (a .letters .now) 6 (l .last .1 .1 .1 .1 .1 .1 .0) (l .result) (read-message-lost (a .marked) (a .f) k (a .rest .now) (a .p) (a .s .now) (a .letters .now) 6 (read-message-short (a .marked) k (a .p) (a .s .now) (a .p + d .result) (ap (_+_ (a .p)) (d .ensures .0)) (b .pre .1) (c .before .before .before .before .if1 .taken))) (l .ensures)
 
 sums-requires : tie.Need-sums-requires
 sums-requires c κs =
-    let b = c .before .before .before .before .before .before in
+    let b = c .before .before .before .before .before .before .before in
     let a = b .args in
     let k = length (a .out .now) in
     let d = a .p + c .before .before .data-at .result in
@@ -37,7 +38,7 @@ sums-requires c κs =
 
 is-clean-requires : tie.Need-is-clean-requires
 is-clean-requires c κs =
-    let b = c .before .before .before .before .before .before .before in
+    let b = c .before .before .before .before .before .before .before .before in
     let a = b .args in
     let k = length (a .out .now) in
     let g = b .pre .0 in
@@ -47,7 +48,7 @@ is-clean-requires c κs =
 
 put-standing-requires : tie.Need-put-standing-requires
 put-standing-requires c κs =
-    let b = c .before .before .before .before .before .before .before .before .before .before in
+    let b = c .before .before .before .before .before .before .before .before .before .before .before in
     let a = b .args in
     let k = length (a .out .now) in
     let g = b .pre .0 in
@@ -58,7 +59,7 @@ put-standing-requires c κs =
 
 returns-2 : tie.Need-returns-2
 returns-2 c =
-    let b = c .before .before .before .before .before .before .before .before .before .before .before .before .before in
+    let b = c .before .before .before .before .before .before .before .before .before .before .before .before .before .before in
     let a = b .args in
     let k = length (a .out .now) in
     let g = b .pre .0 in
@@ -66,11 +67,11 @@ returns-2 c =
     let o = c .before .before .put-standing in
     let z = c .before .before .before .before .before .is-clean in
     let t = stands-tells (a .marked) (a .f) k (a .rest .now) (a .p) (a .s .now) (sym (z .ensures) ∙ c .before .before .before .before .if2 .taken) in
-    subst (λ (r : Answer). IsStep (stepAt (a .marked) (a .f) k (a .rest .now) (a .p) (a .s .now)) (a .s .now) (a .rest .now) (o .last .1 .1 .0) r) (sym (o .ensures .0)) (stands-step (a .marked) (a .f) k (a .p) (a .p + d .result) (a .s .now) (g .message .0) (g .received .symbols) (ap (_+_ (a .p)) (d .ensures .0)) (omega (arith, c .before .before .before .before .before .before .before .before .if1 .left)) (t .standing) (a .rest .now) (λ e. omega (arith, t .last e, size-data (a .marked) k, d .ensures .0)) (o .last .1 .1 .0) (o .ensures .1))
+    subst (λ (r : Answer). IsStep (stepAt (a .marked) (a .f) k (a .rest .now) (a .p) (a .s .now) (a .letters .now)) (a .s .now) (a .letters .now) (a .rest .now) (o .last .1 .1 .0) r) (sym (o .ensures .0)) (stands-step (a .marked) (a .f) k (a .p) (a .p + d .result) (a .s .now) (g .message .0) (g .received .symbols) (ap (_+_ (a .p)) (d .ensures .0)) (omega (arith, c .before .before .before .before .before .before .before .before .if1 .left)) (t .standing) (a .letters .now) (as-length (a .s .now) (a .letters .now) (g .read)) (a .rest .now) (λ e. omega (arith, t .last e, size-data (a .marked) k, d .ensures .0)) (o .last .1 .1 .0) (o .ensures .1))
 
 read-summed-requires : tie.Need-read-summed-requires
 read-summed-requires c κs =
-    let b = c .before .before .before .before .before .before .before .before .before .before in
+    let b = c .before .before .before .before .before .before .before .before .before .before .before in
     let a = b .args in
     let k = length (a .out .now) in
     let d = c .before .before .before .before .before .before .data-at in

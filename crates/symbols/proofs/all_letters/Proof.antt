@@ -9,10 +9,10 @@ use Rattle.symbols.proofs.all_letters.Statement.{statement}
 use Rattle.symbols.proofs.all_letters.Tie as tie
 
 abbrev Inv-loop : tie.InvT-loop
-Inv-loop letters all₀ i₀ all i = (i ≤ length letters) × ((all && allLetters (drop i letters)) ≡ allLetters letters)
+Inv-loop letters unknown all₀ i₀ all i = (i ≤ length letters) × ((all && allLetters unknown (drop i letters)) ≡ allLetters unknown letters)
 
 abbrev μ-loop : tie.MeasureT-loop
-μ-loop letters all₀ i₀ all i = length letters - i
+μ-loop letters unknown all₀ i₀ all i = length letters - i
 
 pub all-letters-spec : {M : Type 1} → statement M
 all-letters-spec =
@@ -28,8 +28,9 @@ all-letters-spec =
     (λ c. omega arith)
     (λ c.
     let l = c .before .before .before .before .loop in
-    let cs = c .before .before .before .before .before .before .args .letters .now in
-    (omega arith, rw (c .both .ensures, c .before .is-letter .ensures) (letters-turn cs (l .i) (l .all) (c .before .before .before .loop-test .taken) ∙ l .inv .1)))
+    let a = c .before .before .before .before .before .before .args in
+    (omega arith, rw (c .both .ensures, c .before .is-letter .ensures) (letters-turn (a .unknown) (a .letters .now) (l .i) (l .all) (c .before .before .before .loop-test .taken) ∙ l .inv .1)))
     (λ c.
     let l = c .before .loop in
-    sym (sym (l .inv .1) ∙ letters-end (c .before .before .before .args .letters .now) (l .i) (l .all) (omega arith))))
+    let a = c .before .before .before .args in
+    sym (sym (l .inv .1) ∙ letters-end (a .unknown) (a .letters .now) (l .i) (l .all) (omega arith))))

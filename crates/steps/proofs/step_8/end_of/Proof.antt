@@ -3,6 +3,7 @@ use Prim.Native.Nat.{ℕ, _+_}
 use native.Mathlib.Omega.{arith}
 use borrow.Author.Needs.{needs}
 use lib.ListN.{length, drop}
+use Rattle.code.specs.laws.Letters.{as-length}
 use Rattle.code.specs.Segment.{dataAt}
 use Rattle.code.specs.Reading.{moved}
 use Rattle.tail.proofs.Tails.{tail-last, tail-width}
@@ -13,45 +14,45 @@ use Rattle.steps.proofs.step_8.end_of.Statement.{statement}
 use Rattle.steps.proofs.step_8.end_of.Tie as tie
 
 last-of-requires : tie.Need-last-of-requires
-last-of-requires c κs = let b = c .before .before .before .before in tail-width (b .args .message .now) (b .args .tail) (b .pre .0 .1) (b .pre .1 .0 .1)
+last-of-requires c κs = let b = c .before .before .before .before .before in tail-width (b .args .message .now) (b .args .tail) (b .pre .0 .1) (b .pre .1 .0 .1)
 
 returns : tie.Need-returns
 returns c =
-    let b = c .before .before .before .before .before in
+    let b = c .before .before .before .before .before .before in
     let a = b .args in
     let h = b .pre .1 .0 in
-    end-last (a .s .now) (a .message .now) (a .p) (a .marked) (h .1 .0) (h .0) (a .rest .now) (c .before .if1 .taken) (c .last-of .result) (c .last-of .ensures ∙ tail-last (a .message .now) (a .tail) (b .pre .0 .1) (h .1 .0))
+    end-last (a .s .now) (a .message .now) (a .p) (a .marked) (h .1 .0) (h .0) (a .letters .now) (as-length (a .s .now) (a .letters .now) (b .pre .0 .3)) (a .rest .now) (c .before .if1 .taken) (c .last-of .result) (c .last-of .ensures ∙ tail-last (a .message .now) (a .tail) (b .pre .0 .1) (h .1 .0))
 
 add-after-separator : tie.Need-add-after-separator
 add-after-separator c =
-    let b = c .before .before .before .before .before .before .before .before in
+    let b = c .before .before .before .before .before .before .before .before .before in
     omega (arith, b .pre .1 .0 .0, b .pre .0 .0 .short, c .data-at .ensures .1)
 
 after-separator-requires : tie.Need-after-separator-requires
 after-separator-requires c κs =
-    let b = c .before .before .before .before .before .before .before .before in
+    let b = c .before .before .before .before .before .before .before .before .before in
     let j = c .before .before .found .given .0 .0 in
     let f = found-moved (length (b .args .message .now)) (drop (dataAt (b .args .marked)) (drop (b .args .p) (b .args .s .now))) (b .args .found) (b .pre .1 .1) j (c .before .before .found .given .1) in
     (f .number, omega (arith, b .pre .1 .0 .0, b .pre .0 .0 .short, c .data-at .ensures .1), b .pre .1 .0 .1)
 
 syndrome-at-requires : tie.Need-syndrome-at-requires
 syndrome-at-requires c κs =
-    let b = c .before .before .before .before .before .before .before .before .before in
+    let b = c .before .before .before .before .before .before .before .before .before .before in
     let w = tail-width (b .args .message .now) (b .args .tail) (b .pre .0 .1) (b .pre .1 .0 .1) in
     (omega (arith, c .after-separator .ensures .1), w .0, w .1)
 
-add-t19 : tie.Need-add-t19
-add-t19 c =
-    let b = c .before .before .before .before .before .before .before .before .before .before .before .before in
+add-t20 : tie.Need-add-t20
+add-t20 c =
+    let b = c .before .before .before .before .before .before .before .before .before .before .before .before .before in
     let w = tail-width (b .args .message .now) (b .args .tail) (b .pre .0 .1) (b .pre .1 .0 .1) in
     omega (arith, w .1, c .before .before .before .after-separator .ensures .1)
 
 last-of-requires-2 : tie.Need-last-of-requires-2
-last-of-requires-2 c κs = let b = c .before .before .before .before .before .before .before .before .before .before .before .before in tail-width (b .args .message .now) (b .args .tail) (b .pre .0 .1) (b .pre .1 .0 .1)
+last-of-requires-2 c κs = let b = c .before .before .before .before .before .before .before .before .before .before .before .before .before in tail-width (b .args .message .now) (b .args .tail) (b .pre .0 .1) (b .pre .1 .0 .1)
 
 returns-2 : tie.Need-returns-2
 returns-2 c =
-    let b = c .before .before .before .before .before .before .before .before .before .before .before .before .before in
+    let b = c .before .before .before .before .before .before .before .before .before .before .before .before .before .before in
     let a = b .args in
     let h = b .pre .1 .0 in
     let j = c .before .before .before .before .before .before .before .found .given .0 .0 in
@@ -60,11 +61,11 @@ returns-2 c =
     let at = n .ensures .0 ∙ ap (λ (d : ℕ). a .p + d + (moved (shiftOf j) (length (a .message .now) + 1) + 3)) (c .before .before .before .before .before .data-at .ensures .0) in
     let y = c .before .before .before .syndrome-at in
     let seen = settled-by (a .s .now) (a .message .now) (a .p) (a .marked) (h .1 .0) (h .0) j (f .shift) (a .tail) (b .pre .0 .1) (n .result) at (y .result) (y .ensures) in
-    end-settled (a .s .now) (a .message .now) (a .p) (a .marked) (h .1 .0) (h .0) (a .rest .now) (omega (arith, c .before .before .before .before .before .before .before .before .before .if1 .left)) j (f .shift) (sym seen ∙ c .before .before .if2 .taken) (n .result) (a .tail .width) (c .last-of2 .result) at (b .pre .0 .1 .width) (c .last-of2 .ensures ∙ tail-last (a .message .now) (a .tail) (b .pre .0 .1) (h .1 .0))
+    end-settled (a .s .now) (a .message .now) (a .p) (a .marked) (h .1 .0) (h .0) (a .letters .now) (as-length (a .s .now) (a .letters .now) (b .pre .0 .3)) (a .rest .now) (omega (arith, c .before .before .before .before .before .before .before .before .before .if1 .left)) j (f .shift) (sym seen ∙ c .before .before .if2 .taken) (n .result) (a .tail .width) (c .last-of2 .result) at (b .pre .0 .1 .width) (c .last-of2 .ensures ∙ tail-last (a .message .now) (a .tail) (b .pre .0 .1) (h .1 .0))
 
 end-at-clean-requires : tie.Need-end-at-clean-requires
 end-at-clean-requires c κs =
-    let b = c .before .before .before .before .before .before .before .before .before .before .before in
+    let b = c .before .before .before .before .before .before .before .before .before .before .before .before in
     let a = b .args in
     let h = b .pre .1 .0 in
     let j = c .before .before .before .before .before .found .given .0 .0 in
@@ -77,7 +78,7 @@ end-at-clean-requires c κs =
 
 end-at-clean-requires-2 : tie.Need-end-at-clean-requires-2
 end-at-clean-requires-2 c κs =
-    let b = c .before .before .before .before .before .before in
+    let b = c .before .before .before .before .before .before .before in
     let a = b .args in
     let h = b .pre .1 .0 in
     (b .pre .0, ((h .0, h .1, omega (arith, c .before .before .if1 .left)), settled-none (a .s .now) (a .message .now) (a .p) (a .marked) (h .1 .0) (h .0) (found-missing (length (a .message .now)) (drop (dataAt (a .marked)) (drop (a .p) (a .s .now))) (a .found) (b .pre .1 .1) (c .enum-told .given .1))))
@@ -93,7 +94,7 @@ end-of-spec =
     add-after-separator
     after-separator-requires
     syndrome-at-requires
-    add-t19
+    add-t20
     last-of-requires-2
     returns-2
     end-at-clean-requires

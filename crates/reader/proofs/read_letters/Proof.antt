@@ -5,7 +5,8 @@ use Prim.Native.Nat.{ℕ, _*_, _/_}
 use native.Mathlib.Omega.{arith}
 use borrow.Author.Needs.{needs}
 use lib.ListN.{length, take, drop, replicate, length-take}
-use Rattle.code.specs.Symbols.{bytes}
+use Rattle.code.specs.Symbols.{asSymbols, bytes}
+use Rattle.code.specs.laws.Letters.{as-below}
 use Rattle.code.specs.laws.Symbols.{length-bytes}
 use Rattle.code.specs.laws.Layout.{lengths-within}
 use Rattle.code.specs.Order.{Order, order}
@@ -18,8 +19,8 @@ use Rattle.code.specs.laws.MessageBelow.{messages-below, marks-below}
 use Rattle.code.specs.laws.ReadCall.{length-sheet}
 use Rattle.reading.proofs.Fronts.{lent-symbols, lent-entries, Front, front-put, front-below, over-front, messages-length, numbers-length, marks-length}
 use Rattle.reader.proofs.Calls.{room}
-use Rattle.reader.proofs.read_symbols.Statement.{statement}
-use Rattle.reader.proofs.read_symbols.Tie as tie
+use Rattle.reader.proofs.read_letters.Statement.{statement}
+use Rattle.reader.proofs.read_letters.Tie as tie
 
 -- the order, and what holds of it
 abbrev order-of : tie.Start → Order
@@ -32,24 +33,24 @@ entries : (b : tie.Start) → length {A = ℕ} (take (length (b .args .lengths .
 entries b = lent-entries (order-of b) (b .pre .1 .0)
 
 -- the messages in the array of symbols
-symbols-front : (c : tie.After-read-layout) → let a = c .before .before .before .before .before .before .before .before .args in Front (4 * a .b) (messagesOf (outcomes (a .lengths .now) (a .s .now))) (c .read-layout .last .1 .1 .0 ++ drop (4 * a .b) (replicate 512 0))
+symbols-front : (c : tie.After-read-layout) → let a = c .before .before .before .before .before .before .before .before .args in Front (4 * a .b) (messagesOf (outcomes (a .lengths .now) (a .letters .now))) (c .read-layout .last .1 .1 .1 .0 ++ drop (4 * a .b) (replicate 512 0))
 symbols-front c =
     let b = c .before .before .before .before .before .before .before .before in
-    front-put _ _ (drop (4 * b .args .b) (replicate 512 0)) _ (c .read-layout .ensures .0) (messages-length (order-of b) (b .pre .1 .0) (b .args .s .now))
+    front-put _ _ (drop (4 * b .args .b) (replicate 512 0)) _ (c .read-layout .ensures .0) (messages-length (order-of b) (b .pre .1 .0) (b .args .letters .now))
 
 -- the numbers of the verdicts in the array of verdicts
-verdicts-front : (c : tie.After-read-layout) (r : List ℕ) → let a = c .before .before .before .before .before .before .before .before .args in Front (length (a .lengths .now)) (map verdictNumber (verdictsOf (outcomes (a .lengths .now) (a .s .now)))) (c .read-layout .last .1 .1 .1 .0 ++ r)
+verdicts-front : (c : tie.After-read-layout) (r : List ℕ) → let a = c .before .before .before .before .before .before .before .before .args in Front (length (a .lengths .now)) (map verdictNumber (verdictsOf (outcomes (a .lengths .now) (a .letters .now)))) (c .read-layout .last .1 .1 .1 .1 .0 ++ r)
 verdicts-front c r =
     let b = c .before .before .before .before .before .before .before .before in
-    front-put _ _ r _ (c .read-layout .ensures .1 .0) (numbers-length (order-of b) (b .pre .1 .0) (b .args .s .now))
+    front-put _ _ r _ (c .read-layout .ensures .1 .0) (numbers-length (order-of b) (b .pre .1 .0) (b .args .letters .now))
 
 -- the marks in the array of marks
-marks-front : (c : tie.After-marks-of) → let a = c .before .before .before .before .before .before .before .before .before .before .before .before .before .before .before .before .before .before .before .args in Front (length (a .lengths .now)) (marksOf (verdictsOf (outcomes (a .lengths .now) (a .s .now)))) (c .marks-of .last .1 .0 ++ drop (length (a .lengths .now)) (replicate 64 0))
+marks-front : (c : tie.After-marks-of) → let a = c .before .before .before .before .before .before .before .before .before .before .before .before .before .before .before .before .before .before .before .args in Front (length (a .lengths .now)) (marksOf (verdictsOf (outcomes (a .lengths .now) (a .letters .now)))) (c .marks-of .last .1 .0 ++ drop (length (a .lengths .now)) (replicate 64 0))
 marks-front c =
     let b = c .before .before .before .before .before .before .before .before .before .before .before .before .before .before .before .before .before .before .before in
-    let vs = verdictsOf (outcomes (b .args .lengths .now) (b .args .s .now)) in
+    let vs = verdictsOf (outcomes (b .args .lengths .now) (b .args .letters .now)) in
     let numbers = verdicts-front (c .before .before .before .before .before .before .before .before .before .before .before) _ .entries in
-    front-put _ _ (drop (length (b .args .lengths .now)) (replicate 64 0)) _ (c .marks-of .ensures ∙ ap (λ (ns : List ℕ). marksOf (map verdictOf ns)) numbers ∙ marks-back vs) (marks-length (order-of b) (b .pre .1 .0) (b .args .s .now))
+    front-put _ _ (drop (length (b .args .lengths .now)) (replicate 64 0)) _ (c .marks-of .ensures ∙ ap (λ (ns : List ℕ). marksOf (map verdictOf ns)) numbers ∙ marks-back vs) (marks-length (order-of b) (b .pre .1 .0) (b .args .letters .now))
 
 array-borrow-prefix-symbols : tie.Need-array-borrow-prefix-symbols
 array-borrow-prefix-symbols c = omega (arith, ordered (c .before .before .before .before) .most-bytes)
@@ -73,7 +74,7 @@ read-layout-requires : tie.Need-read-layout-requires
 read-layout-requires c κs =
     let b = c .before .before .before .before .before .before .before in
     let o = ordered b in
-    ((b .pre .0, lengths-within (o .lengths) (omega arith)), (lent-symbols (order-of b) (b .pre .1 .0) ∙ sym (o .whole), entries b, entries b))
+    ((b .pre .0 .0, lengths-within (o .lengths) (omega arith), b .pre .0 .1), (lent-symbols (order-of b) (b .pre .1 .0) ∙ sym (o .whole), entries b, entries b))
 
 array-share-prefix-symbols : tie.Need-array-share-prefix-symbols
 array-share-prefix-symbols c = omega (arith, symbols-front (c .before .before .before) .inside)
@@ -86,7 +87,7 @@ pack-requires c κs =
     let b = c .before .before .before .before .before .before .before .before .before .before .before .before .before in
     let a = b .args in
     let f = symbols-front (c .before .before .before .before .before) in
-    let small = front-below _ _ _ f (messages-below false 0 (a .lengths .now) (a .s .now) (a .s .now) (b .pre .0 .symbols)) in
+    let small = front-below _ _ _ f (messages-below false 0 (a .lengths .now) (asSymbols (a .letters .now)) (a .letters .now) (as-below (a .letters .now))) in
     (λ i. omega (arith, small i), omega (arith, f .count, room (order-of b) _ _ (b .pre .1 .1) .0))
 
 array-share-prefix-verdicts : tie.Need-array-share-prefix-verdicts
@@ -115,7 +116,7 @@ pack-sheet-requires c κs =
     let b = c .before .before .before .before .before .before .before .before .before .before .before .before .before .before .before .before .before .before .before .before .before .before in
     let a = b .args in
     let f = marks-front (c .before .before .before) in
-    let small = front-below _ _ _ f (marks-below (outcomes (a .lengths .now) (a .s .now))) in
+    let small = front-below _ _ _ f (marks-below (outcomes (a .lengths .now) (a .letters .now))) in
     (λ i. omega (arith, small i), (omega (arith, f .count, ordered b .most-segments), omega (arith, f .count, room (order-of b) _ _ (b .pre .1 .1) .1)))
 
 array-share-prefix-marks-2 : tie.Need-array-share-prefix-marks-2
@@ -137,8 +138,8 @@ returns c =
     let sheet = over-front sheetOf sheetBytes length-sheet _ _ (a .sheet .now) _ marks (c .before .before .before .before .pack-sheet .ensures) in
     λ i. (counts i, (message i, sheet i))
 
-pub read-symbols-spec : {M : Type 1} → statement M
-read-symbols-spec =
+pub read-letters-spec : {M : Type 1} → statement M
+read-letters-spec =
     tie.close
     (tie.spec
     (λ c. search needs)

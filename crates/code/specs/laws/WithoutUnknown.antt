@@ -1,0 +1,65 @@
+-- Letters without an N are read as if there were no such letter.
+--   base-stands      the symbols, the clean test, what is said and the reading
+--   none-unknown     unknown is said of no segment
+use mathlib.Core.Path.{_≡_, refl, ap}
+use mathlib.Core.Bool.{Bool, true, false, cond}
+use mathlib.Core.List.{List, [], _∷_, map}
+use mathlib.Core.Option.{Option, some, none}
+use Prim.Native.Nat.{ℕ, _-_}
+use native.Mathlib.Omega.{arith}
+use lib.ListN.{getD, take, drop}
+use Rattle.code.specs.Symbols.{asSymbols, hasUnknown}
+use Rattle.code.specs.laws.Letters.{as-known, has-take, has-drop}
+use Rattle.code.specs.Segment.{lastOf, size}
+use Rattle.code.specs.Reading.{clean, SegmentResult, read, readSegment}
+use Rattle.code.specs.Strands.{told, Outcome, scan, unfound, lostAndRest, segmentAndRest, reading, outcomes, verdictsOf}
+use Rattle.code.specs.laws.Strands.{told-known}
+use Rattle.code.specs.WithoutUnknown.{Base-stands}
+use Rattle.code.specs.declared.Edit.{Edit}
+use Rattle.code.specs.declared.Verdict.{Verdict}
+use Rattle.code.specs.declared.Verdict.the-variants.{Read, Unknown, Lost, NoStart}
+
+pub base-stands : Base-stands
+unfolding clean
+base-stands letters h =
+    let e = as-known letters h in
+    record { symbols = e; clean-test = λ k f. rw e; verdict = λ v. told-known v letters h; read = λ ks. rw e }
+
+-- unknown is said of no segment
+
+abbrev NoneUnknown : List Verdict → Type 0
+NoneUnknown [] = Unit {0}
+NoneUnknown (v ∷ vs) = (v ≡ Unknown → ⊥) × NoneUnknown vs
+
+read-known : (e : Edit) → Read e ≡ Unknown → ⊥
+read-known e q = let z : _≡_ {A = ℕ} 0 1 = cc in omega arith
+
+lost-known : (step : ℕ) → Lost step ≡ Unknown → ⊥
+lost-known step q = let z : _≡_ {A = ℕ} 0 1 = cc in omega arith
+
+start-known : NoStart ≡ Unknown → ⊥
+start-known q = let z : _≡_ {A = ℕ} 0 1 = cc in omega arith
+
+unfound-known : (ks : List ℕ) → NoneUnknown (verdictsOf (map unfound ks))
+unfound-known [] = tt
+unfound-known (k ∷ ks) = (start-known, unfound-known ks)
+
+reading-known : (marked : Bool) (f : ℕ) (ks s letters : List ℕ) → hasUnknown letters ≡ false → NoneUnknown (verdictsOf (reading marked f ks s letters))
+unfolding reading
+reading-known marked f [] s letters h = tt
+reading-known marked f (k ∷ ks) s letters h =
+    go (readSegment marked f k ks s letters) (λ g o. reading-known true g ks (drop o s) (drop o letters) (has-drop o letters h))
+  where
+    next : ℕ → ℕ → List Outcome
+    next g o = reading true g ks (drop o s) (drop o letters)
+
+    scanned : (step : ℕ) (o : Option ℕ) → ((g o : ℕ) → NoneUnknown (verdictsOf (next g o))) → NoneUnknown (verdictsOf (lostAndRest k ks s letters step next o))
+    scanned step (some o) n = (lost-known step, n (getD s (o - 1) 0) o)
+    scanned step none n = (lost-known step, unfound-known ks)
+
+    go : (r : SegmentResult) → ((g o : ℕ) → NoneUnknown (verdictsOf (next g o))) → NoneUnknown (verdictsOf (segmentAndRest marked k ks s letters next r))
+    go (read m e o) n = (rw (told-known (Read e) (take o letters) (has-take o letters h)) (read-known e), n (lastOf m) o)
+    go (SegmentResult.lost step) n = scanned step (scan (size marked k) ks s letters) n
+
+pub none-unknown : (ks letters : List ℕ) → hasUnknown letters ≡ false → NoneUnknown (verdictsOf (outcomes ks letters))
+none-unknown ks letters h = reading-known false 0 ks (asSymbols letters) letters h
