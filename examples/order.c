@@ -1,4 +1,4 @@
-/* Orders a strand of 32 bytes in segments that are short at its ends, damages two letters, and reads the message back by the label. */
+/* Orders a strand of 32 bytes in segments that are short at its ends, damages two letters, one to an N, and reads the message back by the label. */
 #include "dnalm.h"
 #include <stdio.h>
 #include <string.h>
@@ -40,7 +40,7 @@ int main(void)
     printf("written %u letters\n", (unsigned)written.length);
 
     strand[2] = strand[2] == 'A' ? 'T' : 'A';
-    strand[100] = strand[100] == 'A' ? 'T' : 'A';
+    strand[100] = 'N';
 
     dnalm_order order = dnalm_read_label(label, labelled.length);
     if (refused(order.refusal)) {

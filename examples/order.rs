@@ -1,4 +1,4 @@
-// Orders a strand of 32 bytes in segments that are short at its ends, damages two letters, and reads the message back by the label.
+// Orders a strand of 32 bytes in segments that are short at its ends, damages two letters, one to an N, and reads the message back by the label.
 use std::process::exit;
 
 #[repr(C)]
@@ -159,9 +159,8 @@ fn main() {
     taken(written.refusal, written.place);
     println!("written {} letters", written.length);
 
-    for damaged in [2, 100] {
-        strand[damaged] = if strand[damaged] == b'A' { b'T' } else { b'A' };
-    }
+    strand[2] = if strand[2] == b'A' { b'T' } else { b'A' };
+    strand[100] = b'N';
     let letters = &strand[..written.length];
 
     let order = read_label(label);

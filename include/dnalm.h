@@ -1,12 +1,15 @@
 /*
- * DNA-LM strands: writing, reading, the pieces of segments, labels and tallies.
+ * DNA-LM strands: letters, writing, reading, the pieces of segments, labels and tallies.
  *
  * A message of B bytes is 4B symbols. It is written in the letters A, T, C and G, as l segments.
  * A layout lists their lengths, the symbols of the message in each segment from the first to the last:
  * 1 to 64 lengths, each 2 to 64, that sum to 4B. They may be equal, or short at the ends and long between.
+ * A received strand may also have the letter N, which sequencers write where they could not decide. N is
+ * read as A, and a segment with an N never counts as clean.
  * On every layout a strand with at most one letter changed, lost or added in each segment is read back
  * whole, if each segment that is hit in separator or syndrome is last or has an untouched one directly
- * after it.
+ * after it. An N in a letter's place is a changed letter, in the place of an A too, and an extra N is an
+ * added one; so a segment with an N is not untouched.
  *
  *     bash tools/library               proves the calls and writes target/lib/libdnalm.a (x86-64 Linux)
  *     cc -std=c99 -I include program.c target/lib/libdnalm.a
@@ -54,16 +57,22 @@ enum {
     DNALM_CUT = 3,              /* there are no lengths or more than 64, or their sum is not 4B */
     DNALM_OVERLONG = 4,         /* there are more than 2,048 letters */
     DNALM_SHORT_BUFFER = 5,     /* a buffer or a label has too few bytes */
-    DNALM_FOREIGN_LETTER = 6,   /* a byte is none of A, T, C and G */
+    DNALM_FOREIGN_LETTER = 6,   /* a byte is none of A, T, C, G and N */
     DNALM_TALLY_FULL = 7,       /* a count would pass 4,294,967,295 */
     DNALM_LABEL = 8,            /* the edition is not 1 or 2, a spare bit is set, or 1 to 64 equal lengths are in edition 2 */
     DNALM_NO_SUCH_SEGMENT = 9   /* the segment's number is not 1 to l */
 };
 
+/* What dnalm_letter answers for a byte that has no symbol. */
+enum {
+    DNALM_UNKNOWN = 4,          /* N */
+    DNALM_FOREIGN = 5           /* no letter */
+};
+
 /* The marks of a sheet. */
 enum {
     DNALM_CLEAN = 0,
-    DNALM_CORRECTED = 1,
+    DNALM_CORRECTED = 1,        /* also a segment as it was written, but for N in the place of A */
     DNALM_LOST = 2
 };
 
@@ -117,9 +126,17 @@ typedef struct dnalm_tallied {
 } dnalm_tallied;
 
 /*
+ * Answers what a byte of a strand is: 0, 1, 2 or 3, the symbol of A, T, C or G; DNALM_UNKNOWN for N;
+ * DNALM_FOREIGN for any other byte, lower-case letters included.
+ *
+ * It refuses nothing and writes to nothing.
+ */
+uint8_t dnalm_letter(uint8_t byte);
+
+/*
  * Writes the strand of a message of B = b bytes, in segments of the lengths given, to the front of out.
  * A segment of length k has k + t + 6 letters, where t is the number of bits of 2k - 1; the first has two
- * letters fewer.
+ * letters fewer. No N is written.
  *
  * Refused, in this order: 1, 2, 3, 5 where out has fewer bytes than the strand has letters.
  * The bytes of out behind the strand are untouched.
@@ -133,6 +150,7 @@ dnalm_written dnalm_write(const uint16_t *lengths, size_t lengths_count, uint32_
  * The B bytes of the message go to the front of message, with zeros for the symbols of a lost segment.
  * The sheet goes to the front of sheet, (l + 3) / 4 bytes: two bits for each segment, the first segment
  * in the highest bits of the first byte, 0 clean, 1 corrected, 2 lost; the bits that are left are 0.
+ * N is read as A. A segment with an N that is as it was written, N taken as A, is marked corrected.
  *
  * Refused, in this order: 1, 2, 3, 4, 5 where message has fewer than B bytes or sheet too few, 6.
  * The bytes behind the message and behind the sheet are untouched.
@@ -144,8 +162,8 @@ dnalm_counts dnalm_read(const uint16_t *lengths, size_t lengths_count, uint32_t 
 
 /*
  * Answers which letters belong to a segment by that reading; the first segment is 1.
- * The pieces follow each other and are all the letters. A lost segment's piece runs to the start of the
- * next segment or to the end.
+ * The pieces follow each other and are all the letters, N among them. A lost segment's piece runs to the
+ * start of the next segment or to the end.
  *
  * Refused, in this order: 1, 2, 3, 4, 6, 9. It writes to nothing.
  */

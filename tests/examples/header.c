@@ -1,4 +1,4 @@
-/* What the header says of sizes, empty buffers and refused calls, held against the library. It is C99 and C++ alike. */
+/* What the header says of sizes, empty buffers, letters and refused calls, held against the library. It is C99 and C++ alike. */
 #include "dnalm.h"
 #include <stdio.h>
 #include <stdlib.h>
@@ -181,14 +181,38 @@ static void labels(void)
     no_label("\x10\x60\x20\x00", 4, DNALM_CUT);
 }
 
-/* A foreign letter, letters too many and a full tally. */
+/* What each byte is; an N in the place of an A and one in the place of a C, both corrected; their pieces. */
+static void unknown(void)
+{
+    static const uint16_t two[2] = {2, 2};
+    static const uint8_t known[5] = {'A', 'T', 'C', 'G', 'N'};
+    const uint8_t *strand = (const uint8_t *)"NTTGGGTATTNGTAAAGC";
+    uint8_t message[1];
+    uint8_t sheet[1];
+    for (int byte = 0; byte < 256; byte++) {
+        int told = 0;
+        while (told < 5 && known[told] != byte) {
+            told++;
+        }
+        EXPECT(dnalm_letter((uint8_t)byte) == told);
+    }
+    EXPECT(dnalm_letter('N') == DNALM_UNKNOWN && dnalm_letter('n') == DNALM_FOREIGN);
+    dnalm_counts c = dnalm_read(two, 2, 1, strand, 18, message, 1, sheet, 1);
+    EXPECT(c.refusal == DNALM_TAKEN && c.clean == 0 && c.corrected == 2 && c.lost == 0);
+    EXPECT(message[0] == 0x1B && sheet[0] == 0x50);
+    dnalm_piece_at p = dnalm_piece(two, 2, 1, strand, 18, 2);
+    EXPECT(p.refusal == DNALM_TAKEN && p.start == 8 && p.length == 10);
+    EXPECT(dnalm_letter(strand[p.start + 2]) == DNALM_UNKNOWN);
+}
+
+/* A foreign letter behind an N, letters too many and a full tally. */
 static void refused(void)
 {
     static const uint16_t two[2] = {2, 2};
     static uint8_t many[DNALM_MOST_LETTERS + 1];
     uint8_t message[1] = {7};
     uint8_t sheet[1] = {7};
-    const uint8_t *letters = (const uint8_t *)"ATTgGGTATTCGTAAAGN";
+    const uint8_t *letters = (const uint8_t *)"NTTgGGTATTCGTAAAGX";
     dnalm_counts c = dnalm_read(two, 2, 1, letters, 18, message, 1, sheet, 1);
     EXPECT(c.refusal == DNALM_FOREIGN_LETTER && c.place == 3);
     EXPECT(c.clean == 0 && c.corrected == 0 && c.lost == 0);
@@ -212,6 +236,7 @@ int main(void)
     mixed();
     empty();
     labels();
+    unknown();
     refused();
     return 0;
 }

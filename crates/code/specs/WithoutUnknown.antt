@@ -1,5 +1,6 @@
 -- What N leaves alone: letters without an N are read as if there were no such letter. Proved in laws/WithoutUnknown.antt.
 --   Without-unknown   the symbols, the clean test, what is said and the whole reading of letters without an N
+--   Base-stands       so it is for all such letters
 use mathlib.Core.Path.{_≡_}
 use mathlib.Core.Bool.{true, false}
 use mathlib.Core.List.{List}

@@ -22,7 +22,7 @@ fn span_of(lengths: &[u16], b: u32, letters: &[u8], unknown: bool, i: usize) -> 
 {
     let mut symbols = [0u8; 512];
     let mut verdicts = [0u32; 64];
-    let mut ends = [0usize; 64];
+    let mut ends = [0u16; 64];
     let n = 4 * b as usize;
     let l = lengths.len();
     read_layout(
@@ -33,11 +33,11 @@ fn span_of(lengths: &[u16], b: u32, letters: &[u8], unknown: bool, i: usize) -> 
         &mut verdicts[..l],
         &mut ends[..l],
     );
-    let end = ends[i];
+    let end = ends[i] as usize;
     if i == 0 {
         return Located::At(0, end);
     }
-    Located::At(ends[i - 1], end)
+    Located::At(ends[i - 1] as usize, end)
 }
 
 // Answers where the piece of a segment starts and where it ends, the segments being counted from 1; for callers that take places

@@ -35,7 +35,7 @@ fn read_letters(
 {
     let mut symbols = [0u8; 512];
     let mut verdicts = [0u32; 64];
-    let mut ends = [0usize; 64];
+    let mut ends = [0u16; 64];
     let mut marks = [0u8; 64];
     let n = 4 * b as usize;
     let l = lengths.len();

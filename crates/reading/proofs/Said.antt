@@ -3,7 +3,7 @@
 --   said-exact       that of no edit
 --   untold-numbered  a verdict has a number if what is said of its piece has one
 use mathlib.Core.Path.{_≡_, refl, sym, ap, _∙_}
-use mathlib.Core.Bool.{Bool, true}
+use mathlib.Core.Bool.{true}
 use mathlib.Core.List.{List}
 use Prim.Native.Nat.{ℕ}
 use Rattle.code.specs.Symbols.{hasUnknown}

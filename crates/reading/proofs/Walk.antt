@@ -7,7 +7,6 @@
 --   walk-piece, walk-known               its piece, and whether an N is among its letters
 --   walk-numbered, walk-number           its verdict has a number
 --   walk-turn                            it holds behind that segment
---   Walked                               what the walk leaves in its buffers
 --   walk-end                             at the end it gives the whole
 use mathlib.Core.Path.{_≡_, refl, sym, ap, _∙_}
 use mathlib.Core.Bool.{Bool, true, false, not}
@@ -37,7 +36,7 @@ use Rattle.scan.specs.Scans.{startOf, nextPlace, Known}
 use Rattle.steps.specs.declared.Answer.{Answer}
 use Rattle.steps.specs.Steps.{Step, stepOf, going, Marked, IsStep}
 use Rattle.steps.specs.laws.Steps.{going-step, step-length, step-end, step-piece, step-numbered, startPlace, place-start, place-inside}
-use Rattle.reading.specs.Walks.{endsFrom}
+use Rattle.reading.specs.Walks.{endsFrom, Walked}
 use Rattle.reading.proofs.Said.{untold-numbered}
 
 -- a part of a buffer, as the logic puts it back
@@ -228,19 +227,13 @@ module _ (ks s letters : List ℕ) where
                   ends-are = rw (more-ends, append-assoc, ended, end-is) (rw split at (w .ends-are));
                 }
 
-  -- the buffers of a walk hold the messages, the numbers of the verdicts and the ends
-  pub record Walked (symbols verdicts ends : List ℕ) : Type 0 where
-    pub messages-are : symbols ≡ messagesOf (outcomes ks letters)
-    pub verdicts-are : verdicts ≡ numbersOf (outcomes ks letters)
-    pub ends-are : ends ≡ endsFrom 0 (outcomes ks letters)
-
-  pub walk-end : (symbols verdicts ends : List ℕ) (next : Next) (from at i : ℕ) (rest : List ℕ) → Walk symbols verdicts ends next from at i rest → length rest ≡ 0 → Walked symbols verdicts ends
+  pub walk-end : (symbols verdicts ends : List ℕ) (next : Next) (from at i : ℕ) (rest : List ℕ) → Walk symbols verdicts ends next from at i rest → length rest ≡ 0 → Walked ks letters symbols verdicts ends
   unfolding sum joined endsFrom
   walk-end symbols verdicts ends next from at i [] w h =
       let z : to-come i next [] ≡ [] = nothing-left (startOf next) (not (eqb i 0)) s letters in
       record {
-        messages-are = sym (take-all at symbols (omega (arith, w .behind))) ∙ sym (append-nil (take at symbols)) ∙ (rw z at (w .messages-are));
-        verdicts-are = sym (take-all i verdicts (omega (arith, w .verdicts-room, w .count))) ∙ sym (append-nil (take i verdicts)) ∙ (rw z at (w .verdicts-are));
-        ends-are = sym (take-all i ends (omega (arith, w .ends-room, w .count))) ∙ sym (append-nil (take i ends)) ∙ (rw z at (w .ends-are));
+        messages = sym (take-all at symbols (omega (arith, w .behind))) ∙ sym (append-nil (take at symbols)) ∙ (rw z at (w .messages-are));
+        numbers = sym (take-all i verdicts (omega (arith, w .verdicts-room, w .count))) ∙ sym (append-nil (take i verdicts)) ∙ (rw z at (w .verdicts-are));
+        places = sym (take-all i ends (omega (arith, w .ends-room, w .count))) ∙ sym (append-nil (take i ends)) ∙ (rw z at (w .ends-are));
       }
   walk-end symbols verdicts ends next from at i (k ∷ rest) w h = absurd (omega arith)

@@ -1,11 +1,26 @@
 -- The walk over a layout.
---   endsFrom    where the pieces of outcomes end
-use mathlib.Core.List.{List, [], _∷_}
+--   endsFrom   where the pieces of outcomes end
+--   Lent       the buffers that a walk is lent
+--   Walked     what it leaves in them
+use mathlib.Core.Path.{_≡_}
+use mathlib.Core.List.{List, [], _∷_, map}
 use Prim.Native.Nat.{ℕ, _+_}
 use lib.ListN.{length}
-use Rattle.code.specs.Strands.{Outcome}
+use Rattle.code.specs.Layout.{sum}
+use Rattle.code.specs.Strands.{Outcome, outcomes, messagesOf, verdictsOf}
+use Rattle.code.specs.Verdicts.{verdictNumber}
 
 -- where the pieces end, the first of which starts at p
 unfoldable pub endsFrom : ℕ → List Outcome → List ℕ
 endsFrom p [] = []
 endsFrom p (o ∷ os) = (p + length (o .piece)) ∷ endsFrom (p + length (o .piece)) os
+
+-- room for the symbols of a layout, and for a verdict and an end of each segment
+abbrev pub Lent : List ℕ → List ℕ → List ℕ → List ℕ → Type 0
+Lent ks symbols verdicts ends = (length symbols ≡ sum ks) × (length verdicts ≡ length ks) × (length ends ≡ length ks)
+
+-- the messages of the segments of letters, the numbers of their verdicts, and where their pieces end
+pub record Walked (ks letters symbols verdicts ends : List ℕ) : Type 0 where
+  pub messages : symbols ≡ messagesOf (outcomes ks letters)
+  pub numbers : verdicts ≡ map verdictNumber (verdictsOf (outcomes ks letters))
+  pub places : ends ≡ endsFrom 0 (outcomes ks letters)

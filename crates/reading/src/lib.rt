@@ -7,16 +7,15 @@ use symbols::as_symbols;
 use symbols::has_unknown;
 ghost use mathlib.Core.Path.{_≡_};
 ghost use mathlib.Core.Bool.{true, false};
-ghost use mathlib.Core.List.{map};
 ghost use Prim.Native.Nat.{_≤_};
 ghost use lib.ListN.{length};
 ghost use Rattle.code.specs.Symbols.{asSymbols, hasUnknown};
 ghost use Rattle.code.specs.Limits.{mostLetters};
 ghost use Rattle.code.specs.Bounds.{longest, Received};
-ghost use Rattle.code.specs.Layout.{sum, Lengths};
-ghost use Rattle.code.specs.Strands.{told, outcomes, messagesOf, verdictsOf};
+ghost use Rattle.code.specs.Layout.{Lengths};
+ghost use Rattle.code.specs.Strands.{told};
 ghost use Rattle.code.specs.Verdicts.{verdictNumber, verdictOf};
-ghost use Rattle.reading.specs.Walks.{endsFrom};
+ghost use Rattle.reading.specs.Walks.{Lent, Walked};
 
 // The number of what is said of a segment by its piece: no edit becomes unknown where an N is among its letters. Pieces of a strand without N are
 // not looked at.
@@ -45,13 +44,11 @@ fn read_segments(
     unknown: bool,
     symbols: &mut [u8],
     verdicts: &mut [u32],
-    ends: &mut [usize],
+    ends: &mut [u16],
 )
     requires { ⌜ Received (now s) × Lengths longest (now lengths) × (now s ≡ asSymbols (now letters)) × (unknown ≡ hasUnknown (now letters)) ⌝ }
-    requires { ⌜ (length (now symbols) ≡ sum (now lengths)) × (length (now verdicts) ≡ length (now lengths)) × (length (now ends) ≡ length (now lengths)) ⌝ }
-    ensures { λ _. ⌜ now (symbols .exit) ≡ messagesOf (outcomes (now (lengths .entry)) (now (letters .entry))) ⌝ }
-    ensures { λ _. ⌜ now (verdicts .exit) ≡ map verdictNumber (verdictsOf (outcomes (now (lengths .entry)) (now (letters .entry)))) ⌝ }
-    ensures { λ _. ⌜ now (ends .exit) ≡ endsFrom 0 (outcomes (now (lengths .entry)) (now (letters .entry))) ⌝ }
+    requires { ⌜ Lent (now lengths) (now symbols) (now verdicts) (now ends) ⌝ }
+    ensures { λ _. ⌜ Walked (now (lengths .entry)) (now (letters .entry)) (now (symbols .exit)) (now (verdicts .exit)) (now (ends .exit)) ⌝ }
 {
     let mut next = Next::At(0, 0);
     let mut from = 0;
@@ -67,7 +64,7 @@ fn read_segments(
         next = answer.next;
         let end = next_place(next, s.len());
         verdicts[i] = said_of(number, &letters[from..end], unknown);
-        ends[i] = end;
+        ends[i] = end as u16;
         from = end;
         at = to;
         i += 1;
@@ -80,13 +77,11 @@ fn read_unknown(
     letters: &[u8],
     symbols: &mut [u8],
     verdicts: &mut [u32],
-    ends: &mut [usize],
+    ends: &mut [u16],
 )
     requires { ⌜ (length (now letters) ≤ mostLetters) × Lengths longest (now lengths) × (true ≡ hasUnknown (now letters)) ⌝ }
-    requires { ⌜ (length (now symbols) ≡ sum (now lengths)) × (length (now verdicts) ≡ length (now lengths)) × (length (now ends) ≡ length (now lengths)) ⌝ }
-    ensures { λ _. ⌜ now (symbols .exit) ≡ messagesOf (outcomes (now (lengths .entry)) (now (letters .entry))) ⌝ }
-    ensures { λ _. ⌜ now (verdicts .exit) ≡ map verdictNumber (verdictsOf (outcomes (now (lengths .entry)) (now (letters .entry)))) ⌝ }
-    ensures { λ _. ⌜ now (ends .exit) ≡ endsFrom 0 (outcomes (now (lengths .entry)) (now (letters .entry))) ⌝ }
+    requires { ⌜ Lent (now lengths) (now symbols) (now verdicts) (now ends) ⌝ }
+    ensures { λ _. ⌜ Walked (now (lengths .entry)) (now (letters .entry)) (now (symbols .exit)) (now (verdicts .exit)) (now (ends .exit)) ⌝ }
 {
     let mut s = [0u8; 2048];
     as_symbols(letters, &mut s);
@@ -102,13 +97,11 @@ pub fn read_layout(
     unknown: bool,
     symbols: &mut [u8],
     verdicts: &mut [u32],
-    ends: &mut [usize],
+    ends: &mut [u16],
 )
     requires { ⌜ (length (now letters) ≤ mostLetters) × Lengths longest (now lengths) × (unknown ≡ hasUnknown (now letters)) ⌝ }
-    requires { ⌜ (length (now symbols) ≡ sum (now lengths)) × (length (now verdicts) ≡ length (now lengths)) × (length (now ends) ≡ length (now lengths)) ⌝ }
-    ensures { λ _. ⌜ now (symbols .exit) ≡ messagesOf (outcomes (now (lengths .entry)) (now (letters .entry))) ⌝ }
-    ensures { λ _. ⌜ now (verdicts .exit) ≡ map verdictNumber (verdictsOf (outcomes (now (lengths .entry)) (now (letters .entry)))) ⌝ }
-    ensures { λ _. ⌜ now (ends .exit) ≡ endsFrom 0 (outcomes (now (lengths .entry)) (now (letters .entry))) ⌝ }
+    requires { ⌜ Lent (now lengths) (now symbols) (now verdicts) (now ends) ⌝ }
+    ensures { λ _. ⌜ Walked (now (lengths .entry)) (now (letters .entry)) (now (symbols .exit)) (now (verdicts .exit)) (now (ends .exit)) ⌝ }
 {
     if unknown {
         read_unknown(lengths, letters, symbols, verdicts, ends);

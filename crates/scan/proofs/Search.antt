@@ -2,7 +2,6 @@
 --   left                         the answer of the starts that are left
 --   unmarked, marked             the clean test, by the marker
 --   Compared                     the symbols of a tail that are compared
---   letter-by-letter             the letters of a segment whose symbols are clean
 use mathlib.Core.Path.{_≡_, refl, sym, ap, subst, _∙_}
 use mathlib.Core.Bool.{Bool, true, false}
 use mathlib.Core.List.{List, _∷_}
@@ -29,16 +28,20 @@ use Rattle.clean.proofs.Parts.{mark-fails, segment-seen}
 use Rattle.scan.specs.declared.Next.{Next}
 use Rattle.scan.specs.declared.Next.the-variants.{Clean, Nowhere}
 use Rattle.scan.specs.Scans.{firstClean, letterBefore, searched}
-use Rattle.scan.specs.laws.Scans.{letter-from, clean-but}
+use Rattle.scan.specs.laws.Scans.{letter-from}
 
 -- The starts that are left
 
-module _ (s letters : List ℕ) (p n k count : ℕ) (received : Bool) (f : ℕ) where
+module _ (letters : List ℕ) (p n k count : ℕ) (received : Bool) (f : ℕ) where
+  -- the symbols that the letters are read as
+  abbrev s : List ℕ
+  s = asSymbols letters
+
   -- the answer of the starts from the i-th on
   unfoldable pub left : ℕ → Next
-  left i = searched received f k p (above (drop i (take count (n ∷ pairs n 1 8)))) s letters
+  left i = searched received f k p (above (drop i (take count (n ∷ pairs n 1 8)))) letters
 
-  pub left-whole : left 0 ≡ searched received f k p (above (take count (n ∷ pairs n 1 8))) s letters
+  pub left-whole : left 0 ≡ searched received f k p (above (take count (n ∷ pairs n 1 8))) letters
   unfolding left
   left-whole = refl
 
@@ -124,16 +127,6 @@ module _ (s : List ℕ) (t : Tail) (behind : ℕ) (answer : Bool) where
 
       pub compared-stop : (x ≡ getD s (behind + j) 0 → ⊥) → answer ≡ false
       compared-stop e = let l = long in sym (known .rest) ∙ block-stop s behind (tailOf t) j (omega arith) (omega (arith, known .within)) (λ q. e (is ∙ q))
-
--- The letters of a segment whose symbols are clean
-
-module _ (k f : ℕ) (s letters : List ℕ) (read : s ≡ asSymbols letters) (at n : ℕ) (size-of : n ≡ size true k) (room : at + n ≤ length s) (stands : clean k f (drop at s) (drop at s) ≡ true) where
-  -- they are clean if they are those symbols
-  pub letter-by-letter : (same b : Bool) → same ≡ isPrefix (take (at + n - at) (drop at s)) (drop at letters) → same ≡ b → clean k f (drop at s) (drop at letters) ≡ b
-  letter-by-letter same b looked e =
-      let q : at + n - at ≡ size true k = omega arith in
-      let l : at + size true k ≤ length s = omega arith in
-      clean-but k f s letters read at l stands ∙ (sym (rw q at looked) ∙ e)
 
 -- The numbers
 

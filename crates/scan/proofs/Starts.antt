@@ -11,7 +11,8 @@ use lib.ListN.{length, drop, length-drop}
 use lib.Seq.{drop-drop}
 use Rattle.code.specs.Limits.{mostLetters}
 use Rattle.code.specs.Bounds.{farthest, Length}
-use Rattle.code.specs.Symbols.{Below}
+use Rattle.code.specs.Symbols.{asSymbols}
+use Rattle.code.specs.laws.Letters.{length-as, as-below}
 use Rattle.code.specs.laws.Below.{below-drop}
 use Rattle.code.specs.laws.Layers.{width-least}
 use Rattle.code.specs.Segment.{size}
@@ -49,27 +50,30 @@ first-inside k g s letters os same o e = omega (arith, clean-inside k (g o) s le
 
 -- The answer of a search
 
-module _ (received : Bool) (f k p : ℕ) (os s letters : List ℕ) where
+module _ (received : Bool) (f k p : ℕ) (os letters : List ℕ) where
+  abbrev S : List ℕ
+  S = drop p (asSymbols letters)
+
   abbrev g : ℕ → ℕ
-  g = letterBefore received f (drop p s)
+  g = letterBefore received f S
 
   -- the start that it names
-  pub searched-start : startOf (searched received f k p os s letters) ≡ startFrom p g (firstClean k g (drop p s) (drop p letters) os)
-  searched-start = go (firstClean k g (drop p s) (drop p letters) os)
+  pub searched-start : startOf (searched received f k p os letters) ≡ startFrom p g (firstClean k g S (drop p letters) os)
+  searched-start = go (firstClean k g S (drop p letters) os)
     where
       go : (x : Option ℕ) → startOf (cleanFrom p g x) ≡ startFrom p g x
       go (some o) = refl
       go none = refl
 
   -- what holds of it
-  pub searched-known : Below 4 s → f < 4 → p ≤ length s → length s ≡ length letters → (ks : List ℕ) → Known s letters (k ∷ ks) (searched received f k p os s letters)
-  searched-known small symbol inside same ks = go (firstClean k g (drop p s) (drop p letters) os) refl
+  pub searched-known : f < 4 → p ≤ length letters → (ks : List ℕ) → Known (asSymbols letters) letters (k ∷ ks) (searched received f k p os letters)
+  searched-known symbol inside ks = go (firstClean k g S (drop p letters) os) refl
     where
-      from : length (drop p s) ≡ length (drop p letters)
-      from = simp length-drop (omega arith)
+      from : length S ≡ length (drop p letters)
+      from = simp length-drop (omega (arith, length-as letters))
 
-      go : (x : Option ℕ) → firstClean k g (drop p s) (drop p letters) os ≡ x → Known s letters (k ∷ ks) (cleanFrom p g x)
+      go : (x : Option ℕ) → firstClean k g S (drop p letters) os ≡ x → Known (asSymbols letters) letters (k ∷ ks) (cleanFrom p g x)
       go none e = tt
       go (some o) e =
-          let l = first-inside k g (drop p s) (drop p letters) os from o e in
-          (record { inside = omega (arith, l, length-drop p s); symbol = letter-below received f (drop p s) (below-drop p s small) symbol o }, rw (← drop-drop o p s, ← drop-drop o p letters) (clean-first k g (drop p s) (drop p letters) os o e))
+          let l = first-inside k g S (drop p letters) os from o e in
+          (record { inside = omega (arith, l, length-drop p (asSymbols letters), length-as letters); symbol = letter-below received f S (below-drop p (asSymbols letters) (as-below letters)) symbol o }, rw (← drop-drop o p (asSymbols letters), ← drop-drop o p letters) (clean-first k g S (drop p letters) os o e))

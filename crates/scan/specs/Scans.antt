@@ -12,6 +12,7 @@ use mathlib.Core.List.{List, [], _∷_}
 use mathlib.Core.Option.{Option, some, none}
 use Prim.Native.Nat.{ℕ, _+_, _-_}
 use lib.ListN.{getD, drop}
+use Rattle.code.specs.Symbols.{asSymbols}
 use Rattle.code.specs.Bounds.{Start}
 use Rattle.code.specs.Reading.{clean}
 use Rattle.scan.specs.declared.Next.{Next}
@@ -31,10 +32,10 @@ abbrev pub cleanFrom : ℕ → (ℕ → ℕ) → Option ℕ → Next
 cleanFrom p g (some o) = Clean (p + o) (g o)
 cleanFrom p g none = Nowhere
 
--- the first of the starts os, counted from p, where a clean segment of k message symbols stands
-abbrev pub searched : Bool → ℕ → ℕ → ℕ → List ℕ → List ℕ → List ℕ → Next
-searched received f k p os s letters =
-    let g = letterBefore received f (drop p s) in cleanFrom p g (firstClean k g (drop p s) (drop p letters) os)
+-- the first of the starts os, counted from p, where a clean segment of k message symbols stands in the letters
+abbrev pub searched : Bool → ℕ → ℕ → ℕ → List ℕ → List ℕ → Next
+searched received f k p os letters =
+    let s = drop p (asSymbols letters) in let g = letterBefore received f s in cleanFrom p g (firstClean k g s (drop p letters) os)
 
 -- the start that an answer names, and the symbol before it
 abbrev pub startOf : Next → Option (ℕ × ℕ)

@@ -1,8 +1,8 @@
 // The search for a clean segment about a place.
 use clean::marker_stands;
-use places::comparisons::stands_at;
 use places::offsets::moved_by;
 use segment::size_of;
+use symbols::has_unknown;
 use tail::symbol_in;
 use tail::tail_of;
 ghost use mathlib.Core.Path.{_≡_};
@@ -11,7 +11,7 @@ ghost use Prim.Native.Nat.{_<_, _≤_};
 ghost use lib.ListN.{length, take};
 ghost use Rattle.code.specs.Symbols.{asSymbols};
 ghost use Rattle.code.specs.Limits.{mostLetters};
-ghost use Rattle.code.specs.Bounds.{farthest, mostMoves, Length, Received};
+ghost use Rattle.code.specs.Bounds.{farthest, mostMoves, Length};
 ghost use Rattle.code.specs.Strands.{above, pairs};
 ghost use Rattle.scan.specs.Scans.{letterBefore, searched, nextPlace};
 
@@ -33,21 +33,20 @@ pub fn next_place(next: Next, n: usize) -> usize
     }
 }
 
-// The symbol before a start: the received one, or f.
-fn letter_before(s: &[u8], at: usize, received: bool, f: u8) -> u8
-    requires { ⌜ (0 < at) × (at < length (now s)) ⌝ }
-    ensures { λ r. ⌜ r ≡ letterBefore received f (now (s .entry)) at ⌝ }
+// The symbol before a start: that of the received letter, or f.
+fn letter_before(letters: &[u8], at: usize, received: bool, f: u8) -> u8
+    requires { ⌜ (0 < at) × (at < length (now letters)) ⌝ }
+    ensures { λ r. ⌜ r ≡ letterBefore received f (asSymbols (now (letters .entry))) at ⌝ }
 {
     if received {
-        return s[at - 1];
+        return letters[at - 1] & 3;
     }
     f
 }
 
-// The first of `count` starts about p + n where a clean segment of k message symbols stands: in the symbols s, and letter for letter. f is the
+// The first of `count` starts about p + n where a clean segment of k message symbols stands in the letters; an N is no letter of one. f is the
 // received symbol before the start, or the given one.
 pub fn find_clean(
-    s: &[u8],
     letters: &[u8],
     p: usize,
     n: usize,
@@ -56,10 +55,10 @@ pub fn find_clean(
     received: bool,
     f: u8,
 ) -> Next
-    requires { ⌜ Received (now s) ⌝ }
-    requires { ⌜ (p ≤ length (now s)) × (farthest ≤ n) × (n ≤ mostLetters) ⌝ }
-    requires { ⌜ Length k × (count ≤ mostMoves) × (f < 4) × (now s ≡ asSymbols (now letters)) ⌝ }
-    ensures { λ r. ⌜ r ≡ searched received f k p (above (take count (n ∷ pairs n 1 8))) (now (s .entry)) (now (letters .entry)) ⌝ }
+    requires { ⌜ length (now letters) ≤ mostLetters ⌝ }
+    requires { ⌜ (p ≤ length (now letters)) × (farthest ≤ n) × (n ≤ mostLetters) ⌝ }
+    requires { ⌜ Length k × (count ≤ mostMoves) × (f < 4) ⌝ }
+    ensures { λ r. ⌜ r ≡ searched received f k p (above (take count (n ∷ pairs n 1 8))) (now (letters .entry)) ⌝ }
 {
     let size = size_of(true, k);
     let mut tried: usize = 0;
@@ -73,25 +72,25 @@ pub fn find_clean(
             continue 'starts;
         }
         let at = p + offset;
-        if s.len() < at + size {
+        if letters.len() < at + size {
             continue 'starts;
         }
-        let before = letter_before(s, at, received, f);
-        if !marker_stands(s, at, true, before) {
+        let before = letter_before(letters, at, received, f);
+        if !marker_stands(letters, at, true, before) {
             continue 'starts;
         }
         let behind = at + (2 + k);
-        let tail = tail_of(&s[at + 2..behind]);
+        if has_unknown(&letters[at + 2..behind]) {
+            continue 'starts;
+        }
+        let tail = tail_of(&letters[at + 2..behind]);
         let width = tail.width;
         let mut j = 0;
         while j < 4 + width {
-            if symbol_in(tail, j) != s[behind + j] {
+            if symbol_in(tail, j) != letters[behind + j] {
                 continue 'starts;
             }
             j += 1;
-        }
-        if !stands_at(&s[at..at + size], letters, at) {
-            continue 'starts;
         }
         break Next::Clean(at, before);
     }

@@ -1,6 +1,6 @@
 -- What is answered of a segment: from its message, its end and the comparison, or from the step that loses it.
 --   read-message-lost, no-end, with-end  what steps 1 to 9 make of a message and an end
---   lost-gives                           the step of a lost segment
+--   lost-gives, lost-read                the step of a lost segment
 --   gives-lost, gives-read               the step of a segment that was lost or read
 --   Ended                                what is known of a segment before step 9
 --   compared-lost,                       compared-read the step of a segment that was compared
@@ -11,6 +11,7 @@ use mathlib.Core.Option.{Option, some, none}
 use Prim.Native.Nat.{ℕ, _+_, _-_, _≤_}
 use native.Mathlib.Omega.{arith}
 use lib.ListN.{length, take, drop, replicate}
+use Rattle.code.specs.Symbols.{asSymbols}
 use Rattle.code.specs.Segment.{segment, lastOf, size}
 use Rattle.code.specs.Edits.{judged}
 use Rattle.code.specs.Reading.{message, lost, readMessage, endOf, withEdit, readSegment}
@@ -51,6 +52,10 @@ module _ (marked : Bool) (f k : ℕ) (ks : List ℕ) (p : ℕ) (s letters : List
     pub with-end : (o : ℕ) → endOf marked k ks S L m ≡ some o → one ≡ withEdit m o (judged (segment marked f m) (take o S))
     unfolding readSegment
     with-end o e = rw (g, e)
+
+  -- the step of a lost segment, where the letters are read as s
+  pub lost-read : s ≡ asSymbols letters → (n : ℕ) (out : List ℕ) (r : Answer) → IsStep (lostAt marked k ks p (asSymbols letters) letters n) (asSymbols letters) letters ks out r → IsStep (lostAt marked k ks p s letters n) s letters ks out r
+  lost-read read n out r is = subst (λ (x : List ℕ). IsStep (lostAt marked k ks p x letters n) x letters ks out r) (sym read) is
 
   -- the step of a lost segment
   pub lost-gives : (n : ℕ) (out : List ℕ) (next : Next) → out ≡ replicate k 0 → startOf next ≡ lostAt marked k ks p s letters 0 .next → Known s letters ks next → IsStep (lostAt marked k ks p s letters n) s letters ks out (record { verdict = Lost n; next = next })

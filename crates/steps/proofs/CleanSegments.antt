@@ -134,4 +134,5 @@ pub clean-stands : (k f p : ℕ) (s letters : List ℕ) → s ≡ asSymbols lett
 unfolding R.clean
 clean-stands k f p s letters read e =
     let same : length s ≡ length letters = ap length read ∙ length-as letters in
-    (clean-in-symbols k f s letters read p e, omega (arith, clean-inside k f s letters same p e, size-data true k))
+    let own : R.clean k f (drop p s) (drop p s) ≡ true = rw read (clean-in-symbols k f letters p (rw read at e)) in
+    (own, omega (arith, clean-inside k f s letters same p e, size-data true k))

@@ -8,7 +8,7 @@ use mathlib.Core.Option.{Option, some, none}
 use Prim.Native.Nat.{ℕ, _<_, _≤_}
 use native.Mathlib.Omega.{arith}
 use lib.ListN.{length, getD, take, drop}
-use Rattle.code.specs.Bounds.{Received}
+use Rattle.code.specs.Symbols.{asSymbols}
 use Rattle.code.specs.Segment.{size}
 use Rattle.code.specs.Strands.{above, pairs, scan}
 use Rattle.scan.specs.declared.Next.{Next}
@@ -18,7 +18,11 @@ use Rattle.scan.specs.laws.Scans.{scan-first}
 use Rattle.scan.proofs.Starts.{searched-start, searched-known}
 use Rattle.steps.specs.Steps.{afterLost, lostAt}
 
-module _ (marked : Bool) (k p : ℕ) (s letters : List ℕ) where
+module _ (marked : Bool) (k p : ℕ) (letters : List ℕ) where
+  -- the symbols that the letters are read as
+  abbrev s : List ℕ
+  s = asSymbols letters
+
   abbrev S : List ℕ
   S = drop p s
 
@@ -37,11 +41,11 @@ module _ (marked : Bool) (k p : ℕ) (s letters : List ℕ) where
   lost-next none = refl
 
   -- the search for the first of the lengths is that of step 10
-  pub scan-is : (ks : List ℕ) → 0 < length ks → Received s → p ≤ length s → length s ≡ length letters → (n : ℕ) → n ≡ size marked k → (r : Next) → r ≡ searched true 0 (getD ks 0 0) p (above (take 17 (n ∷ pairs n 1 8))) s letters → (startOf r ≡ lostAt marked k ks p s letters 0 .next) × Known s letters ks r
-  scan-is [] l h inside long n e r q = absurd (omega arith)
-  scan-is (x ∷ ks) l h inside long n e r q =
+  pub scan-is : (ks : List ℕ) → 0 < length ks → p ≤ length letters → (n : ℕ) → n ≡ size marked k → (r : Next) → r ≡ searched true 0 (getD ks 0 0) p (above (take 17 (n ∷ pairs n 1 8))) letters → (startOf r ≡ lostAt marked k ks p s letters 0 .next) × Known s letters ks r
+  scan-is [] l inside n e r q = absurd (omega arith)
+  scan-is (x ∷ ks) l inside n e r q =
       let os = above (take 17 (n ∷ pairs n 1 8)) in
       let same : scan (size marked k) (x ∷ ks) S L ≡ firstClean x (letterBefore true 0 S) S L os = ap (λ (i : ℕ). scan i (x ∷ ks) S L) (sym e) ∙ scan-first n x 0 ks S L in (
-        ap startOf q ∙ (searched-start true 0 x p os s letters ∙ (ap (startFrom p (letterBefore true 0 S)) (sym same) ∙ lost-next (scan (size marked k) (x ∷ ks) S L))),
-        subst (Known s letters (x ∷ ks)) (sym q) (searched-known true 0 x p os s letters (h .symbols) (omega arith) inside long ks),
+        ap startOf q ∙ (searched-start true 0 x p os letters ∙ (ap (startFrom p (letterBefore true 0 S)) (sym same) ∙ lost-next (scan (size marked k) (x ∷ ks) S L))),
+        subst (Known s letters (x ∷ ks)) (sym q) (searched-known true 0 x p os letters (omega arith) inside ks),
       )

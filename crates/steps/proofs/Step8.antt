@@ -4,6 +4,7 @@
 --   end-last                  the last segment ends with the strand
 --   end-settled               one whose syndrome was seen ends behind it
 --   end-around                another ends where a clean one starts
+--   end-read                  the end, where the letters are read as given symbols
 use mathlib.Core.Path.{_≡_, refl, sym, ap, subst, _∙_}
 use mathlib.Core.Bool.{Bool, true, false, false≢true}
 use mathlib.Core.List.{List, [], _∷_}
@@ -12,7 +13,8 @@ use Prim.Native.Nat.{ℕ, _+_, _≤_, _<_}
 use native.Mathlib.Omega.{arith}
 use lib.ListN.{length, getD, take, drop, length-drop, length-append}
 use lib.Seq.{drop-drop}
-use Rattle.code.specs.Bounds.{longest, Length, Received}
+use Rattle.code.specs.Symbols.{asSymbols}
+use Rattle.code.specs.Bounds.{longest, Length}
 use Rattle.code.specs.Layers.{width}
 use Rattle.code.specs.Segment.{syndromeOf, lastOf, size, dataAt}
 use Rattle.code.specs.laws.Segment.{length-syndrome, width-two, last-below}
@@ -70,9 +72,6 @@ module _ (s m : List ℕ) (p : ℕ) (marked : Bool) (two : 2 ≤ length m) (insi
       f ∙ syndrome-seen (shiftOf j) (length m) (p + dataAt marked) s m t at i e ∙ rw (h, q)
 
   module _ (letters : List ℕ) (same : length s ≡ length letters) where
-    abbrev L : List ℕ
-    L = drop p letters
-
     -- the last segment ends with the strand
     pub end-last : (ks : List ℕ) → length ks ≡ 0 → (f : ℕ) → f ≡ lastOf m → IsEnd marked m ks p s letters (At (length s) f)
     unfolding endOf
@@ -91,17 +90,29 @@ module _ (s m : List ℕ) (p : ℕ) (marked : Bool) (two : 2 ≤ length m) (insi
         let v : dataAt marked + (moved (shiftOf j) (length m + 1) + 3 + width (length m)) ≤ length S = rw h at r in
         (rw (e, h) (λ y. some (q y, o y)), record { inside = omega (arith, q, v, length-drop p s); symbol = omega (arith, o, last-below m) })
 
-    -- another ends where a clean one starts
-    pub end-around : (ks : List ℕ) → 0 < length ks → Received s → seen ≡ false → (n f : ℕ) (r : Next) → n ≡ size marked (length m) → f ≡ lastOf m → 1 < n → r ≡ searched false f (getD ks 0 0) p (above (take 3 (n ∷ pairs n 1 8))) s letters → IsEnd marked m ks p s letters r
-    unfolding endOf letterBefore
-    end-around [] l h e n f r g i o q = absurd (omega arith)
-    end-around (k ∷ ks) l h e n f r g i o q =
-        let os = above (take 3 (n ∷ pairs n 1 8)) in
-        let x = firstClean k (letterBefore false f S) S L os in
-        let found : x ≡ around n (firstShift (λ e. clean k f (drop (moved e n) S) (drop (moved e n) L))) = around-first n k f S L o in
-        let found′ : x ≡ endOf marked (length m) (k ∷ ks) S L m = found ∙ rw (e, ← i, ← g) in
-        (ap startOf q ∙ (searched-start false f k p os s letters ∙ (named x ∙ ap (startFrom p (λ o. lastOf m)) found′)), subst (Known s letters (k ∷ ks)) (sym q) (searched-known false f k p os s letters (h .symbols) (omega (arith, i, last-below m)) inside same ks))
-      where
-        named : (x : Option ℕ) → startFrom p (letterBefore false f S) x ≡ startFrom p (λ o. lastOf m) x
-        named (some o) = ap (λ (y : ℕ). some (p + o, y)) i
-        named none = refl
+-- another ends where a clean one starts
+module _ (letters m : List ℕ) (p : ℕ) (marked : Bool) (inside : p ≤ length letters) where
+  -- the symbols that the letters are read as
+  abbrev from : List ℕ
+  from = drop p (asSymbols letters)
+
+  abbrev L : List ℕ
+  L = drop p letters
+
+  pub end-around : (ks : List ℕ) → 0 < length ks → settledAt marked m p (asSymbols letters) ≡ false → (n f : ℕ) (r : Next) → n ≡ size marked (length m) → f ≡ lastOf m → 1 < n → r ≡ searched false f (getD ks 0 0) p (above (take 3 (n ∷ pairs n 1 8))) letters → IsEnd marked m ks p (asSymbols letters) letters r
+  unfolding endOf letterBefore
+  end-around [] l e n f r g i o q = absurd (omega arith)
+  end-around (k ∷ ks) l e n f r g i o q =
+      let os = above (take 3 (n ∷ pairs n 1 8)) in
+      let x = firstClean k (letterBefore false f from) from L os in
+      let found : x ≡ around n (firstShift (λ e. clean k f (drop (moved e n) from) (drop (moved e n) L))) = around-first n k f from L o in
+      let found′ : x ≡ endOf marked (length m) (k ∷ ks) from L m = found ∙ rw (e, ← i, ← g) in
+      (ap startOf q ∙ (searched-start false f k p os letters ∙ (named x ∙ ap (startFrom p (λ o. lastOf m)) found′)), subst (Known (asSymbols letters) letters (k ∷ ks)) (sym q) (searched-known false f k p os letters (omega (arith, i, last-below m)) inside ks))
+    where
+      named : (x : Option ℕ) → startFrom p (letterBefore false f from) x ≡ startFrom p (λ o. lastOf m) x
+      named (some o) = ap (λ (y : ℕ). some (p + o, y)) i
+      named none = refl
+
+-- the end, where the letters are read as s
+pub end-read : (marked : Bool) (m ks : List ℕ) (p : ℕ) (s letters : List ℕ) (r : Next) → s ≡ asSymbols letters → IsEnd marked m ks p (asSymbols letters) letters r → IsEnd marked m ks p s letters r
+end-read marked m ks p s letters r read is = subst (λ (x : List ℕ). IsEnd marked m ks p x letters r) (sym read) is

@@ -37,12 +37,12 @@ fn ended(
 {
     let next = end_of(s, letters, p, marked, out, tail, found, rest);
     if let Next::Nowhere = next {
-        return lost(s, letters, p, marked, rest, 8, out);
+        return lost(letters, p, marked, rest, 8, out);
     }
     let end = next_place(next, s.len());
     let verdict = compared(s, p, marked, f, out, tail, end);
     if let Verdict::Lost(step) = verdict {
-        return lost(s, letters, p, marked, rest, step, out);
+        return lost(letters, p, marked, rest, step, out);
     }
     Answer { verdict, next }
 }
@@ -66,6 +66,6 @@ pub fn finished(
 {
     match read {
         MessageResult::Message(tail) => ended(s, letters, p, marked, f, rest, found, tail, out),
-        MessageResult::Lost(step) => lost(s, letters, p, marked, rest, step, out),
+        MessageResult::Lost(step) => lost(letters, p, marked, rest, step, out),
     }
 }

@@ -112,7 +112,7 @@ fn read_marked(
     let d = p + data_at(marked);
     let to = d + k;
     if s.len() < to {
-        return lost(s, letters, p, marked, rest, 6, out);
+        return lost(letters, p, marked, rest, 6, out);
     }
     let sums = layers::sums(&s[d..to]);
     if is_clean(s, p, marked, f, d, k, sums, rest) {

@@ -9,24 +9,24 @@ ghost use mathlib.Core.Path.{_≡_};
 ghost use Prim.Native.Nat.{_≤_};
 ghost use lib.ListN.{length};
 ghost use Rattle.code.specs.Symbols.{asSymbols};
-ghost use Rattle.code.specs.Bounds.{longest, Length, Received};
+ghost use Rattle.code.specs.Limits.{mostLetters};
+ghost use Rattle.code.specs.Bounds.{longest, Length};
 ghost use Rattle.code.specs.Layout.{Lengths};
 ghost use Rattle.scan.specs.Scans.{startOf, Known};
 ghost use Rattle.steps.specs.Steps.{lostAt, SteppedLost};
 
 // Step 10: where the segment behind a lost one of k message symbols starts; `rest` is the lengths behind it.
-fn scan_behind(s: &[u8], letters: &[u8], p: usize, marked: bool, k: usize, rest: &[u16]) -> Next
-    requires { ⌜ Received (now s) ⌝ }
-    requires { ⌜ (p ≤ length (now s)) × Length k × (now s ≡ asSymbols (now letters)) ⌝ }
+fn scan_behind(letters: &[u8], p: usize, marked: bool, k: usize, rest: &[u16]) -> Next
+    requires { ⌜ length (now letters) ≤ mostLetters ⌝ }
+    requires { ⌜ (p ≤ length (now letters)) × Length k ⌝ }
     requires { ⌜ Lengths longest (now rest) ⌝ }
-    ensures { λ r. ⌜ startOf r ≡ lostAt marked k (now (rest .entry)) p (now (s .entry)) (now (letters .entry)) 0 .next ⌝ }
-    ensures { λ r. ⌜ Known (now (s .entry)) (now (letters .entry)) (now (rest .entry)) r ⌝ }
+    ensures { λ r. ⌜ startOf r ≡ lostAt marked k (now (rest .entry)) p (asSymbols (now (letters .entry))) (now (letters .entry)) 0 .next ⌝ }
+    ensures { λ r. ⌜ Known (asSymbols (now (letters .entry))) (now (letters .entry)) (now (rest .entry)) r ⌝ }
 {
     if rest.len() == 0 {
         return Next::Nowhere;
     }
     find_clean(
-        s,
         letters,
         p,
         size_of(marked, k),
@@ -39,7 +39,6 @@ fn scan_behind(s: &[u8], letters: &[u8], p: usize, marked: bool, k: usize, rest:
 
 // A segment at p that a step loses comes straight to step 10.
 pub fn lost(
-    s: &[u8],
     letters: &[u8],
     p: usize,
     marked: bool,
@@ -47,14 +46,14 @@ pub fn lost(
     step: u8,
     out: &mut [u8],
 ) -> Answer
-    requires { ⌜ Received (now s) ⌝ }
-    requires { ⌜ (p ≤ length (now s)) × Length (length (now out)) × (now s ≡ asSymbols (now letters)) ⌝ }
+    requires { ⌜ length (now letters) ≤ mostLetters ⌝ }
+    requires { ⌜ (p ≤ length (now letters)) × Length (length (now out)) ⌝ }
     requires { ⌜ Lengths longest (now rest) ⌝ }
-    ensures { λ r. ⌜ SteppedLost marked step p (now (s .entry)) (now (letters .entry)) (now (rest .entry)) (now (out .entry)) (now (out .exit)) r ⌝ }
+    ensures { λ r. ⌜ SteppedLost marked step p (asSymbols (now (letters .entry))) (now (letters .entry)) (now (rest .entry)) (now (out .entry)) (now (out .exit)) r ⌝ }
 {
     put_zeros(out);
     Answer {
         verdict: Verdict::Lost(step),
-        next: scan_behind(s, letters, p, marked, out.len(), rest),
+        next: scan_behind(letters, p, marked, out.len(), rest),
     }
 }

@@ -13,6 +13,7 @@ ghost use mathlib.Core.Bool.{false};
 ghost use Prim.Native.Nat.{_<_, _≤_};
 ghost use lib.ListN.{length};
 ghost use Rattle.code.specs.Symbols.{asSymbols};
+ghost use Rattle.code.specs.Limits.{mostLetters};
 ghost use Rattle.code.specs.Bounds.{longest, Length, Received};
 ghost use Rattle.code.specs.Layout.{Lengths};
 ghost use Rattle.tail.specs.Tails.{IsTail};
@@ -21,7 +22,6 @@ ghost use Rattle.steps.specs.Step8.{separatorIn, settledAt, IsEnd};
 
 // The end that the symbols after the separator don't settle: where a clean segment of the first of the lengths `rest` starts.
 fn end_at_clean(
-    s: &[u8],
     letters: &[u8],
     p: usize,
     marked: bool,
@@ -29,13 +29,12 @@ fn end_at_clean(
     tail: Tail,
     rest: &[u16],
 ) -> Next
-    requires { ⌜ Received (now s) × IsTail (now message) tail × Lengths longest (now rest) × (now s ≡ asSymbols (now letters)) ⌝ }
-    requires { ⌜ (p ≤ length (now s)) × Length (length (now message)) × (0 < length (now rest)) ⌝ }
-    requires { ⌜ settledAt marked (now message) p (now s) ≡ false ⌝ }
-    ensures { λ r. ⌜ IsEnd marked (now (message .entry)) (now (rest .entry)) p (now (s .entry)) (now (letters .entry)) r ⌝ }
+    requires { ⌜ (length (now letters) ≤ mostLetters) × IsTail (now message) tail × Lengths longest (now rest) ⌝ }
+    requires { ⌜ (p ≤ length (now letters)) × Length (length (now message)) × (0 < length (now rest)) ⌝ }
+    requires { ⌜ settledAt marked (now message) p (asSymbols (now letters)) ≡ false ⌝ }
+    ensures { λ r. ⌜ IsEnd marked (now (message .entry)) (now (rest .entry)) p (asSymbols (now (letters .entry))) (now (letters .entry)) r ⌝ }
 {
     find_clean(
-        s,
         letters,
         p,
         size_of(marked, message.len()),
@@ -71,8 +70,8 @@ pub fn end_of(
             if syndrome_at(tail, s, after) {
                 return Next::At(after + tail.width, last_of(tail));
             }
-            end_at_clean(s, letters, p, marked, message, tail, rest)
+            end_at_clean(letters, p, marked, message, tail, rest)
         }
-        Separator::Missing => end_at_clean(s, letters, p, marked, message, tail, rest),
+        Separator::Missing => end_at_clean(letters, p, marked, message, tail, rest),
     }
 }

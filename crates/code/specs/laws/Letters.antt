@@ -3,13 +3,15 @@
 --   as-below                     which symbols
 --   as-append, as-take, as-drop  parts of letters
 --   as-same, as-known            letters that are symbols
---   has-append, has-take         an N among parts of letters
---   asSymbol, as-applied         edits
+--   has-append, has-take,        an N among parts of letters
+--   has-drop
+--   asSymbol, as-fits,           edits
+--   as-applied
 --   prefix-letters               a block of symbols at the front of letters
 use mathlib.Core.Path.{_≡_, refl, sym, ap, _∙_}
 use mathlib.Core.Bool.{Bool, true, false, not, _&&_, _||_}
 use mathlib.Core.List.{List, [], _∷_, _++_}
-use Prim.Native.Nat.{ℕ, zero, suc, _%_, _≤_, _<_}
+use Prim.Native.Nat.{ℕ, zero, suc, _%_, _≤_}
 use native.Mathlib.Decide.{decLe}
 use native.Mathlib.Nat.{lt-of-not-le}
 use native.Mathlib.Omega.{arith}
@@ -17,7 +19,6 @@ use borrow.Author.Tests.{le-ltb, lt-ltb, ne-eqb, ltb-false}
 use lib.Dec.{eqb, ltb}
 use lib.ListN.{length, take, drop, set}
 use Rattle.code.specs.Symbols.{Below, asSymbols, hasUnknown}
-use Rattle.code.specs.Repair.{putIn, leaveOut}
 use Rattle.code.specs.Edits.{applied, Fits}
 use Rattle.code.specs.Reading.{isPrefix}
 use Rattle.code.specs.declared.Edit.{Edit}

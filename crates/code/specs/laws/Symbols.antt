@@ -12,7 +12,7 @@ use Rattle.code.specs.declared.Letter.{Letter}
 use Rattle.code.specs.declared.Letter.the-variants.{Symbol, Unknown, Foreign}
 use Rattle.code.specs.declared.Decoded.{Decoded}
 use Rattle.code.specs.declared.Decoded.the-variants as D
-use Rattle.code.specs.Symbols.{Below, unknown, letterKinds, letterOf, symbolOf, letters, before, legible, withUnknown, unless, decodedFrom, decoded, hasUnknown}
+use Rattle.code.specs.Symbols.{Below, unknown, letterKinds, letterOf, symbolOf, letters, before, legible, unless, decodedFrom, decoded, hasUnknown}
 use Rattle.code.specs.Symbols.{symbolsOf, byteOf, symbols, bytes}
 
 -- Letters

@@ -1,8 +1,8 @@
 -- Letters without an N are read as if there were no such letter.
 --   base-stands      the symbols, the clean test, what is said and the reading
 --   none-unknown     unknown is said of no segment
-use mathlib.Core.Path.{_≡_, refl, ap}
-use mathlib.Core.Bool.{Bool, true, false, cond}
+use mathlib.Core.Path.{_≡_}
+use mathlib.Core.Bool.{Bool, true, false}
 use mathlib.Core.List.{List, [], _∷_, map}
 use mathlib.Core.Option.{Option, some, none}
 use Prim.Native.Nat.{ℕ, _-_}
@@ -12,7 +12,7 @@ use Rattle.code.specs.Symbols.{asSymbols, hasUnknown}
 use Rattle.code.specs.laws.Letters.{as-known, has-take, has-drop}
 use Rattle.code.specs.Segment.{lastOf, size}
 use Rattle.code.specs.Reading.{clean, SegmentResult, read, readSegment}
-use Rattle.code.specs.Strands.{told, Outcome, scan, unfound, lostAndRest, segmentAndRest, reading, outcomes, verdictsOf}
+use Rattle.code.specs.Strands.{Outcome, scan, unfound, lostAndRest, segmentAndRest, reading, outcomes, verdictsOf}
 use Rattle.code.specs.laws.Strands.{told-known}
 use Rattle.code.specs.WithoutUnknown.{Base-stands}
 use Rattle.code.specs.declared.Edit.{Edit}

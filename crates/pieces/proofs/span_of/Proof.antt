@@ -1,7 +1,9 @@
 use mathlib.Core.Path.{sym, _∙_}
 use mathlib.Core.Bool.{false}
+use Prim.Native.Nat.{_-_}
 use native.Mathlib.Omega.{arith}
 use borrow.Author.Needs.{needs}
+use lib.ListN.{length, drop, replicate}
 use Rattle.code.specs.Symbols.{asSymbols}
 use Rattle.code.specs.laws.Layout.{lengths-within}
 use Rattle.code.specs.Order.{Order, order}
@@ -9,7 +11,7 @@ use Rattle.code.specs.laws.Order.{Ordered, order-fine}
 use Rattle.code.specs.Strands.{outcomes}
 use Rattle.code.specs.laws.Strands.{length-reading}
 use Rattle.reading.proofs.Fronts.{lent-symbols, lent-entries}
-use Rattle.pieces.proofs.Spans.{first-span, later-span}
+use Rattle.pieces.proofs.Spans.{first-span, later-span, end-small}
 use Rattle.pieces.proofs.span_of.Statement.{statement}
 use Rattle.pieces.proofs.span_of.Tie as tie
 
@@ -51,23 +53,36 @@ mul-end c = let o = ordered (c .before .before .before .before .before .before .
 array-read-end : tie.Need-array-read-end
 array-read-end c = let o = ordered (c .before .before .before .before .before .before .before .before .before) in search needs
 
+-- the ends are small
+cast-end : tie.Need-cast-end
+cast-end c =
+    let b = c .before .before .before .before .before .before .before .before .before in
+    let a = b .args in
+    record { fits = omega (arith, end-small (a .lengths .now) (a .letters .now) _ (drop (length (a .lengths .now)) (replicate 64 0)) (c .before .before .before .read-layout .ensures .places) (b .pre .0 .0) (a .i) (b .pre .1 .1)) }
+
 returns : tie.Need-returns
 returns c =
     let b = c .before .before .before .before .before .before .before .before .before .before in
     let a = b .args in
-    first-span _ _ (outcomes (a .lengths .now) (a .letters .now)) (c .before .before .before .before .read-layout .ensures .1 .1) (a .i) (c .if1 .taken) (rw (length-reading false 0 (a .lengths .now) (asSymbols (a .letters .now)) (a .letters .now)) (b .pre .1 .1))
+    first-span _ _ (outcomes (a .lengths .now) (a .letters .now)) (c .before .before .before .before .read-layout .ensures .places) (a .i) (c .if1 .taken) (rw (length-reading false 0 (a .lengths .now) (asSymbols (a .letters .now)) (a .letters .now)) (b .pre .1 .1))
 
-mul-t22 : tie.Need-mul-t22
-mul-t22 c = let o = ordered (c .before .before .before .before .before .before .before .before .before .before) in search needs
+mul-t24 : tie.Need-mul-t24
+mul-t24 c = let o = ordered (c .before .before .before .before .before .before .before .before .before .before) in search needs
 
-array-read-t26 : tie.Need-array-read-t26
-array-read-t26 c = let o = ordered (c .before .before .before .before .before .before .before .before .before .before) in search needs
+array-read-t22 : tie.Need-array-read-t22
+array-read-t22 c = let o = ordered (c .before .before .before .before .before .before .before .before .before .before) in search needs
+
+cast-t27 : tie.Need-cast-t27
+cast-t27 c =
+    let b = c .before .before .before .before .before .before .before .before .before .before in
+    let a = b .args in
+    record { fits = omega (arith, end-small (a .lengths .now) (a .letters .now) _ (drop (length (a .lengths .now)) (replicate 64 0)) (c .before .before .before .before .read-layout .ensures .places) (b .pre .0 .0) (a .i - 1) (omega (arith, b .pre .1 .1))) }
 
 returns-2 : tie.Need-returns-2
 returns-2 c =
     let b = c .before .before .before .before .before .before .before .before .before .before in
     let a = b .args in
-    later-span _ _ (outcomes (a .lengths .now) (a .letters .now)) (c .before .before .before .before .read-layout .ensures .1 .1) (a .i) (c .if1 .left) (rw (length-reading false 0 (a .lengths .now) (asSymbols (a .letters .now)) (a .letters .now)) (b .pre .1 .1))
+    later-span _ _ (outcomes (a .lengths .now) (a .letters .now)) (c .before .before .before .before .read-layout .ensures .places) (a .i) (c .if1 .left) (rw (length-reading false 0 (a .lengths .now) (asSymbols (a .letters .now)) (a .letters .now)) (b .pre .1 .1))
 
 pub span-of-spec : {M : Type 1} → statement M
 span-of-spec =
@@ -83,8 +98,10 @@ span-of-spec =
     read-layout-requires
     mul-end
     array-read-end
+    cast-end
     returns
     (λ c. search needs)
-    mul-t22
-    array-read-t26
+    mul-t24
+    array-read-t22
+    cast-t27
     returns-2)

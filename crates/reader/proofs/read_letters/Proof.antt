@@ -36,13 +36,13 @@ entries b = lent-entries (order-of b) (b .pre .1 .0)
 symbols-front : (c : tie.After-read-layout) → let a = c .before .before .before .before .before .before .before .before .args in Front (4 * a .b) (messagesOf (outcomes (a .lengths .now) (a .letters .now))) (c .read-layout .last .1 .1 .1 .0 ++ drop (4 * a .b) (replicate 512 0))
 symbols-front c =
     let b = c .before .before .before .before .before .before .before .before in
-    front-put _ _ (drop (4 * b .args .b) (replicate 512 0)) _ (c .read-layout .ensures .0) (messages-length (order-of b) (b .pre .1 .0) (b .args .letters .now))
+    front-put _ _ (drop (4 * b .args .b) (replicate 512 0)) _ (c .read-layout .ensures .messages) (messages-length (order-of b) (b .pre .1 .0) (b .args .letters .now))
 
 -- the numbers of the verdicts in the array of verdicts
 verdicts-front : (c : tie.After-read-layout) (r : List ℕ) → let a = c .before .before .before .before .before .before .before .before .args in Front (length (a .lengths .now)) (map verdictNumber (verdictsOf (outcomes (a .lengths .now) (a .letters .now)))) (c .read-layout .last .1 .1 .1 .1 .0 ++ r)
 verdicts-front c r =
     let b = c .before .before .before .before .before .before .before .before in
-    front-put _ _ r _ (c .read-layout .ensures .1 .0) (numbers-length (order-of b) (b .pre .1 .0) (b .args .letters .now))
+    front-put _ _ r _ (c .read-layout .ensures .numbers) (numbers-length (order-of b) (b .pre .1 .0) (b .args .letters .now))
 
 -- the marks in the array of marks
 marks-front : (c : tie.After-marks-of) → let a = c .before .before .before .before .before .before .before .before .before .before .before .before .before .before .before .before .before .before .before .args in Front (length (a .lengths .now)) (marksOf (verdictsOf (outcomes (a .lengths .now) (a .letters .now)))) (c .marks-of .last .1 .0 ++ drop (length (a .lengths .now)) (replicate 64 0))

@@ -2,6 +2,7 @@ use mathlib.Core.Path.{ap}
 use native.Mathlib.Omega.{arith}
 use borrow.Author.Needs.{needs}
 use lib.ListN.{length}
+use Rattle.code.specs.laws.Letters.{as-length}
 use Rattle.reading.proofs.Walk.{first-length, Walk, walk-begin, walk-small, walk-inside, walk-room, walk-asks, walk-numbered, walk-piece, walk-known, walk-number, walk-turn, walk-end}
 use Rattle.reading.proofs.read_segments.Statement.{statement}
 use Rattle.reading.proofs.read_segments.Tie as tie
@@ -102,6 +103,16 @@ slice-write-verdicts c =
     let first = first-length (l .rest .now) (c .before .before .before .before .before .before .before .before .before .before .loop-test .taken) in
     omega (arith, l .inv .verdicts-room, walk-inside (a .lengths .now) (a .s .now) (a .letters .now) (b .pre .0 .2) _ _ _ _ _ _ _ _ (l .inv) _ _ first)
 
+-- an end is small
+cast-ends : tie.Need-cast-ends Inv-loop μ-loop
+cast-ends c =
+    let b = c .before .before .before .before .before .before .before .before .before .before .before .before .before .before .before .before .before .before in
+    let a = b .args in
+    let l = c .before .before .before .before .before .before .before .before .before .before .before .loop in
+    let first = first-length (l .rest .now) (c .before .before .before .before .before .before .before .before .before .before .loop-test .taken) in
+    let g = c .before .before .before .before .before .before .read-segment in
+    record { fits = omega (arith, walk-piece (a .lengths .now) (a .s .now) (a .letters .now) (b .pre .0 .2) _ _ _ _ _ _ _ _ (l .inv) _ _ first _ (g .result) (g .ensures) _ (c .before .before .next-place .ensures) .1, as-length (a .s .now) (a .letters .now) (b .pre .0 .2), b .pre .0 .0 .short) }
+
 slice-write-ends : tie.Need-slice-write-ends Inv-loop μ-loop
 slice-write-ends c =
     let b = c .before .before .before .before .before .before .before .before .before .before .before .before .before .before .before .before .before .before in
@@ -143,8 +154,7 @@ same-length-3 c = omega (arith, c .before .loop .inv .ends-room, c .before .befo
 returns : tie.Need-returns Inv-loop μ-loop
 returns c =
     let a = c .before .before .before .before .before .before .before .before .args in
-    let w = walk-end (a .lengths .now) (a .s .now) (a .letters .now) _ _ _ _ _ _ _ _ (c .before .loop .inv) (omega (arith, c .loop-test .left)) in
-    (w .messages-are, (w .verdicts-are, w .ends-are))
+    walk-end (a .lengths .now) (a .s .now) (a .letters .now) _ _ _ _ _ _ _ _ (c .before .loop .inv) (omega (arith, c .loop-test .left))
 
 pub read-segments-spec : {M : Type 1} → statement M
 read-segments-spec =
@@ -171,6 +181,7 @@ read-segments-spec =
     said-of-requires
     (λ c. search needs)
     slice-write-verdicts
+    cast-ends
     (λ c. search needs)
     slice-write-ends
     add-i

@@ -1,22 +1,23 @@
 -- Laws of the search for a clean segment: where there is no room for a clean segment, and which searches of the reading steps it is.
 use mathlib.Core.Path.{_≡_, refl, sym, ap, _∙_}
-use mathlib.Core.Bool.{Bool, true, false, cond}
+use mathlib.Core.Bool.{Bool, true, false, cond, not, _&&_, true≢false}
 use mathlib.Core.List.{List, [], _∷_}
 use mathlib.Core.Option.{some, none}
-use Prim.Native.Nat.{ℕ, _+_, _-_, _≤_, _<_}
+use Prim.Native.Nat.{ℕ, zero, suc, _+_, _-_, _≤_, _<_}
 use native.Mathlib.Decide.{decLe}
 use native.Mathlib.Nat.{lt-of-not-le}
 use native.Mathlib.Omega.{arith}
 use borrow.Author.Tests.{lt-ltb}
+use lib.Bits.{bitAnd, and-mask}
 use lib.ListN.{length, getD, take, drop, length-take, length-drop}
-use lib.Seq.{take-all, take-at, getD-drop}
-use Rattle.code.specs.Symbols.{Below, asSymbols}
-use Rattle.code.specs.laws.Letters.{as-drop}
-use Rattle.code.specs.laws.CleanLetters.{clean-symbols}
+use lib.Seq.{take-all, take-take, getD-drop}
+use Rattle.code.specs.Symbols.{Below, asSymbols, hasUnknown}
+use Rattle.code.specs.laws.Letters.{length-as, as-take, as-drop, as-known, has-take, has-drop}
+use Rattle.code.specs.laws.CleanLetters.{clean-letters, clean-symbols}
 use Rattle.code.specs.Segment.{segment, size}
 use Rattle.code.specs.laws.Segment.{length-segment}
-use Rattle.code.specs.Reading.{isPrefix, clean, moved, firstShift, level, early, late, around}
-use Rattle.code.specs.laws.Reading.{prefix-split}
+use Rattle.code.specs.Reading.{clean, moved, firstShift, level, early, late, around}
+use Rattle.code.specs.laws.Reading.{and-false}
 use Rattle.code.specs.Strands.{above, pairs, firstStart, scan}
 use Rattle.places.specs.laws.Offsets.{scan-length}
 use Rattle.places.proofs.TestsAtPlaces.{block-past}
@@ -40,35 +41,66 @@ module _ (k f : ℕ) (s letters : List ℕ) (same : length s ≡ length letters)
           let e : length front ≡ length s - at - 2 = simp (length-take, length-drop) (omega arith) in
           rw e (omega arith)
 
-module _ (k f : ℕ) (s letters : List ℕ) (read : s ≡ asSymbols letters) (at : ℕ) where
-  -- the symbols from a place on
-  from : asSymbols (drop at letters) ≡ drop at s
-  from = as-drop at letters ∙ ap (drop at) (sym read)
+-- a part behind two letters
+behind-two : (k : ℕ) (l : List ℕ) → drop 2 (take (suc (suc k)) l) ≡ take k (drop 2 l)
+behind-two zero [] = refl
+behind-two (suc k) [] = refl
+behind-two zero (x ∷ []) = refl
+behind-two (suc k) (x ∷ []) = refl
+behind-two k (x ∷ y ∷ l) = refl
+
+module _ (k f : ℕ) (letters : List ℕ) (at : ℕ) where
+  -- the letters from a place on, and the symbols that they are read as
+  abbrev L : List ℕ
+  L = drop at letters
+
+  from : asSymbols L ≡ drop at (asSymbols letters)
+  from = as-drop at letters
 
   -- what is clean in letters is clean in symbols
-  pub clean-in-symbols : clean k f (drop at s) (drop at letters) ≡ true → clean k f (drop at s) (drop at s) ≡ true
-  clean-in-symbols e = rw (← from) (clean-symbols k f (drop at letters) (rw from e))
+  pub clean-in-symbols : clean k f (drop at (asSymbols letters)) L ≡ true → clean k f (drop at (asSymbols letters)) (drop at (asSymbols letters)) ≡ true
+  clean-in-symbols e = rw (← from) (clean-symbols k f L (rw from e))
 
-  -- where the symbols are not clean, neither are the letters
-  pub unclean : clean k f (drop at s) (drop at s) ≡ false → clean k f (drop at s) (drop at letters) ≡ false
-  unclean e = go (clean k f (drop at s) (drop at letters)) refl
-    where
-      go : (b : Bool) → clean k f (drop at s) (drop at letters) ≡ b → b ≡ false
-      go true q = sym (clean-in-symbols q) ∙ e
-      go false q = refl
+  -- a message without an N is its own symbols
+  pub clean-known : hasUnknown (take k (drop 2 L)) ≡ false → clean k f (drop at (asSymbols letters)) L ≡ clean k f L L
+  unfolding clean
+  clean-known h =
+      let e : take k (drop 2 (asSymbols L)) ≡ take k (drop 2 L) = ap (take k) (sym (as-drop 2 L)) ∙ (sym (as-take k (drop 2 L)) ∙ as-known (take k (drop 2 L)) h) in
+      rw (← from, e)
 
-  -- where they are, the letters are if they are those symbols
-  pub clean-but : at + size true k ≤ length s → clean k f (drop at s) (drop at s) ≡ true → clean k f (drop at s) (drop at letters) ≡ isPrefix (take (size true k) (drop at s)) (drop at letters)
-  unfolding clean size
-  clean-but room e =
-      let m = take k (drop 2 (drop at s)) in
-      let w = segment true f m in
-      let n : length m ≡ k = simp (length-take, length-drop) (omega arith) in
-      let l : length w ≡ size true k = length-segment true f m ∙ ap (size true) n in
-      let q : take (size true k) (drop at s) ≡ w = ap (take (size true k)) (prefix-split w (drop at s) e) ∙ take-at w (drop (length w) (drop at s)) (size true k) l in
-      rw q
+  module _ (room : at + size true k ≤ length letters) where
+    -- one with an N is no part of a clean segment
+    pub clean-unknown : hasUnknown (take k (drop 2 L)) ≡ true → clean k f (drop at (asSymbols letters)) L ≡ false
+    unfolding size
+    clean-unknown h = rw (← from) (clean-letters k f L ∙ rw n (go (hasUnknown (take (size true k) L)) refl))
+      where
+        n : length (take k (drop 2 (asSymbols L))) ≡ k
+        n = simp (length-take, length-drop) (omega (arith, length-as L, length-drop at letters))
+
+        -- the message is a part of the segment
+        part : drop 2 (take (suc (suc k)) (take (size true k) L)) ≡ take k (drop 2 L)
+        part = ap (drop 2) (take-take (suc (suc k)) (size true k) L (omega arith)) ∙ behind-two k L
+
+        go : (b : Bool) → hasUnknown (take (size true k) L) ≡ b → (clean k f (asSymbols L) (asSymbols L) && not b) ≡ false
+        go true q = and-false (clean k f (asSymbols L) (asSymbols L))
+        go false q = absurd (true≢false (sym h ∙ (ap hasUnknown (sym part) ∙ has-drop 2 (take (suc (suc k)) (take (size true k) L)) (has-take (suc (suc k)) (take (size true k) L) q))))
+
+    -- letters that are no segment by themselves are not clean
+    pub unclean : clean k f L L ≡ false → clean k f (drop at (asSymbols letters)) L ≡ false
+    unclean e = go (hasUnknown (take k (drop 2 L))) refl
+      where
+        go : (b : Bool) → hasUnknown (take k (drop 2 L)) ≡ b → clean k f (drop at (asSymbols letters)) L ≡ false
+        go true q = clean-unknown q
+        go false q = clean-known q ∙ e
 
 -- The symbol before a start
+
+-- the symbol of a letter
+pub symbol-at : (letters : List ℕ) (i : ℕ) → bitAnd (getD letters i 0) 3 ≡ getD (asSymbols letters) i 0
+unfolding asSymbols
+symbol-at [] i = refl
+symbol-at (c ∷ letters) zero = and-mask c 2
+symbol-at (c ∷ letters) (suc i) = symbol-at letters i
 
 module _ (received : Bool) (f : ℕ) (s : List ℕ) where
   -- counted from p, or from the front

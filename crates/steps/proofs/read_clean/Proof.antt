@@ -1,4 +1,4 @@
-use mathlib.Core.Path.{refl, ap, subst, sym, _∙_}
+use mathlib.Core.Path.{refl, ap, subst, sym}
 use mathlib.Core.Bool.{true}
 use Prim.Native.Nat.{_+_}
 use borrow.Author.Needs.{needs}

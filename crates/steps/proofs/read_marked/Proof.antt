@@ -10,14 +10,14 @@ use Rattle.message.proofs.ReceivedParts.{part-length}
 use Rattle.clean.proofs.Segment.{size-data, stands-tells}
 use Rattle.steps.specs.declared.Answer.{Answer}
 use Rattle.steps.specs.Steps.{stepAt, IsStep}
-use Rattle.steps.proofs.Answers.{read-message-lost, gives-lost}
+use Rattle.steps.proofs.Answers.{read-message-lost, lost-read, gives-lost}
 use Rattle.steps.proofs.CleanSegments.{M-inside, stands-step}
 use Rattle.steps.proofs.Step1.{read-message-short}
 use Rattle.steps.proofs.read_marked.Statement.{statement}
 use Rattle.steps.proofs.read_marked.Tie as tie
 
 lost-requires : tie.Need-lost-requires
-lost-requires c κs = let g = c .before .before .before .before .before .before .before .pre .0 in (g .received, ((g .start .inside, g .message, g .read), g .behind))
+lost-requires c κs = let g = c .before .before .before .before .before .before .before .pre .0 in (rw (← as-length _ _ (g .read)) (g .received .short), ((rw (← as-length _ _ (g .read)) (g .start .inside), g .message), g .behind))
 
 returns : tie.Need-returns
 returns c =
@@ -26,7 +26,7 @@ returns c =
     let k = length (a .out .now) in
     let d = c .before .before .before .before .before .data-at in
     let l = c .before .before .lost in
-    gives-lost (a .marked) (a .f) k (a .rest .now) (a .p) (a .s .now) (a .letters .now) 6 (l .last .1 .1 .1 .1 .1 .1 .0) (l .result) (read-message-lost (a .marked) (a .f) k (a .rest .now) (a .p) (a .s .now) (a .letters .now) 6 (read-message-short (a .marked) k (a .p) (a .s .now) (a .p + d .result) (ap (_+_ (a .p)) (d .ensures .0)) (b .pre .1) (c .before .before .before .before .if1 .taken))) (l .ensures)
+    gives-lost (a .marked) (a .f) k (a .rest .now) (a .p) (a .s .now) (a .letters .now) 6 (l .last .1 .1 .1 .1 .1 .0) (l .result) (read-message-lost (a .marked) (a .f) k (a .rest .now) (a .p) (a .s .now) (a .letters .now) 6 (read-message-short (a .marked) k (a .p) (a .s .now) (a .p + d .result) (ap (_+_ (a .p)) (d .ensures .0)) (b .pre .1) (c .before .before .before .before .if1 .taken))) (lost-read (a .marked) (a .f) k (a .rest .now) (a .p) (a .s .now) (a .letters .now) (b .pre .0 .read) 6 _ (l .result) (l .ensures))
 
 sums-requires : tie.Need-sums-requires
 sums-requires c κs =

@@ -1,4 +1,4 @@
-use mathlib.Core.Path.{_≡_, ap, subst, sym}
+use mathlib.Core.Path.{_≡_, subst}
 use mathlib.Core.Bool.{Bool, true}
 use Rattle.symbols.specs.Letters.{isLetter}
 use Rattle.symbols.proofs.LetterBits.{two-fit, three-fit, symbol-bits, letter-bits}

@@ -1,8 +1,9 @@
 use mathlib.Core.Path.{refl}
 use borrow.Author.Needs.{needs}
 use lib.ListN.{length}
+use Rattle.code.specs.laws.Letters.{as-length}
 use Rattle.steps.proofs.Step9.{named}
-use Rattle.steps.proofs.Answers.{no-end, gives-lost, compared-lost, compared-read}
+use Rattle.steps.proofs.Answers.{no-end, lost-read, gives-lost, compared-lost, compared-read}
 use Rattle.steps.proofs.Answered.{end-nowhere, end-known}
 use Rattle.steps.proofs.from_message.ended.Statement.{statement}
 use Rattle.steps.proofs.from_message.ended.Tie as tie
@@ -14,7 +15,7 @@ end-of-requires c κs =
     ((g .received, b .pre .1 .1 .0, g .behind, g .read), ((g .start .inside, g .message), b .pre .1 .0))
 
 lost-requires : tie.Need-lost-requires
-lost-requires c κs = let g = c .before .before .before .before .before .before .before .before .before .pre .0 in (g .received, ((g .start .inside, g .message, g .read), g .behind))
+lost-requires c κs = let g = c .before .before .before .before .before .before .before .before .before .pre .0 in (rw (← as-length _ _ (g .read)) (g .received .short), ((rw (← as-length _ _ (g .read)) (g .start .inside), g .message), g .behind))
 
 returns : tie.Need-returns
 returns c =
@@ -22,7 +23,7 @@ returns c =
     let a = b .args in
     let e = c .before .before .before .before .before .before .end-of in
     let l = c .before .before .lost in
-    gives-lost (a .marked) (a .f) (length (a .out .now)) (a .rest .now) (a .p) (a .s .now) (a .letters .now) 8 _ (l .result) (no-end (a .marked) (a .f) (length (a .out .now)) (a .rest .now) (a .p) (a .s .now) (a .letters .now) (a .out .now) (b .pre .1 .1 .1) (end-nowhere (a .marked) (a .out .now) (a .rest .now) (a .p) (a .s .now) (a .letters .now) (e .result) (e .ensures) (c .before .before .before .before .enum-told .given .1))) (l .ensures)
+    gives-lost (a .marked) (a .f) (length (a .out .now)) (a .rest .now) (a .p) (a .s .now) (a .letters .now) 8 _ (l .result) (no-end (a .marked) (a .f) (length (a .out .now)) (a .rest .now) (a .p) (a .s .now) (a .letters .now) (a .out .now) (b .pre .1 .1 .1) (end-nowhere (a .marked) (a .out .now) (a .rest .now) (a .p) (a .s .now) (a .letters .now) (e .result) (e .ensures) (c .before .before .before .before .enum-told .given .1))) (lost-read (a .marked) (a .f) (length (a .out .now)) (a .rest .now) (a .p) (a .s .now) (a .letters .now) (b .pre .0 .read) 8 _ (l .result) (l .ensures))
 
 compared-requires : tie.Need-compared-requires
 compared-requires c κs =
@@ -35,7 +36,7 @@ compared-requires c κs =
     (g .received, (b .pre .1 .1 .0, (k .behind, k .inside, g .start .symbol, g .message)))
 
 lost-requires-2 : tie.Need-lost-requires-2
-lost-requires-2 c κs = let g = c .before .before .before .before .before .before .before .before .before .before .before .before .before .before .pre .0 in (g .received, ((g .start .inside, g .message, g .read), g .behind))
+lost-requires-2 c κs = let g = c .before .before .before .before .before .before .before .before .before .before .before .before .before .before .pre .0 in (rw (← as-length _ _ (g .read)) (g .received .short), ((rw (← as-length _ _ (g .read)) (g .start .inside), g .message), g .behind))
 
 returns-2 : tie.Need-returns-2
 returns-2 c =
@@ -46,7 +47,7 @@ returns-2 c =
     let v = c .before .before .before .before .before .before .before .compared in
     let l = c .before .before .lost2 in
     let k = end-known (a .marked) (a .out .now) (a .rest .now) (a .p) (a .s .now) (a .letters .now) (b .pre .1 .1 .1) (e .result) (e .ensures) (c .before .before .before .before .before .before .before .before .before .before .match .keys2) (length (a .s .now)) (n .result) (n .ensures) in
-    compared-lost (a .marked) (a .f) (a .rest .now) (a .p) (a .s .now) (a .letters .now) (a .out .now) (e .result) (n .result) k (v .result) (v .ensures) _ _ _ (l .result) (c .before .before .before .before .before .verdict .given .1) refl (l .ensures)
+    compared-lost (a .marked) (a .f) (a .rest .now) (a .p) (a .s .now) (a .letters .now) (a .out .now) (e .result) (n .result) k (v .result) (v .ensures) _ _ _ (l .result) (c .before .before .before .before .before .verdict .given .1) refl (lost-read (a .marked) (a .f) _ (a .rest .now) (a .p) (a .s .now) (a .letters .now) (b .pre .0 .read) _ _ (l .result) (l .ensures))
 
 returns-3 : tie.Need-returns-3
 returns-3 c =

@@ -9,7 +9,7 @@ use Rattle.code.specs.Reading.{moved}
 use Rattle.tail.proofs.Tails.{tail-last, tail-width}
 use Rattle.message.specs.MessageAnswers.{shiftOf}
 use Rattle.message.proofs.Separators.{found-moved, found-missing}
-use Rattle.steps.proofs.Step8.{settled-none, settled-by, end-last, end-settled}
+use Rattle.steps.proofs.Step8.{settled-none, settled-by, end-last, end-settled, end-read}
 use Rattle.steps.proofs.step_8.end_of.Statement.{statement}
 use Rattle.steps.proofs.step_8.end_of.Tie as tie
 
@@ -74,14 +74,28 @@ end-at-clean-requires c κs =
     let at = n .ensures .0 ∙ ap (λ (d : ℕ). a .p + d + (moved (shiftOf j) (length (a .message .now) + 1) + 3)) (c .before .before .before .data-at .ensures .0) in
     let y = c .before .syndrome-at in
     let seen = settled-by (a .s .now) (a .message .now) (a .p) (a .marked) (h .1 .0) (h .0) j (f .shift) (a .tail) (b .pre .0 .1) (n .result) at (y .result) (y .ensures) in
-    (b .pre .0, ((h .0, h .1, omega (arith, c .before .before .before .before .before .before .before .if1 .left)), sym seen ∙ c .if2 .left))
+    let n = as-length (a .s .now) (a .letters .now) (b .pre .0 .3) in
+    ((rw (← n) (b .pre .0 .0 .short), b .pre .0 .1, b .pre .0 .2), ((rw (← n) (h .0), h .1, omega (arith, c .before .before .before .before .before .before .before .if1 .left)), rw (← b .pre .0 .3) (sym seen ∙ c .if2 .left)))
 
 end-at-clean-requires-2 : tie.Need-end-at-clean-requires-2
 end-at-clean-requires-2 c κs =
     let b = c .before .before .before .before .before .before .before in
     let a = b .args in
     let h = b .pre .1 .0 in
-    (b .pre .0, ((h .0, h .1, omega (arith, c .before .before .if1 .left)), settled-none (a .s .now) (a .message .now) (a .p) (a .marked) (h .1 .0) (h .0) (found-missing (length (a .message .now)) (drop (dataAt (a .marked)) (drop (a .p) (a .s .now))) (a .found) (b .pre .1 .1) (c .enum-told .given .1))))
+    let n = as-length (a .s .now) (a .letters .now) (b .pre .0 .3) in
+    ((rw (← n) (b .pre .0 .0 .short), b .pre .0 .1, b .pre .0 .2), ((rw (← n) (h .0), h .1, omega (arith, c .before .before .if1 .left)), rw (← b .pre .0 .3) (settled-none (a .s .now) (a .message .now) (a .p) (a .marked) (h .1 .0) (h .0) (found-missing (length (a .message .now)) (drop (dataAt (a .marked)) (drop (a .p) (a .s .now))) (a .found) (b .pre .1 .1) (c .enum-told .given .1)))))
+
+returns-3 : tie.Need-returns-3
+returns-3 c =
+    let b = c .before .before .before .before .before .before .before .before .before .before .before .before .before in
+    let a = b .args in
+    end-read (a .marked) (a .message .now) (a .rest .now) (a .p) (a .s .now) (a .letters .now) (c .end-at-clean .result) (b .pre .0 .3) (c .end-at-clean .ensures)
+
+returns-4 : tie.Need-returns-4
+returns-4 c =
+    let b = c .before .before .before .before .before .before .before .before in
+    let a = b .args in
+    end-read (a .marked) (a .message .now) (a .rest .now) (a .p) (a .s .now) (a .letters .now) (c .end-at-clean2 .result) (b .pre .0 .3) (c .end-at-clean2 .ensures)
 
 pub end-of-spec : {M : Type 1} → statement M
 end-of-spec =
@@ -100,5 +114,5 @@ end-of-spec =
     end-at-clean-requires
     (λ c. search needs)
     end-at-clean-requires-2
-    (λ c. search needs)
-    (λ c. search needs))
+    returns-3
+    returns-4)
