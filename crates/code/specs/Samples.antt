@@ -71,5 +71,8 @@ of-every (x ∷ rs) t r (List·Memᴰ·tail m) = of-every rs (both (holds x) (ev
 
 -- every row is right
 pub rows-hold : (r : Row) → List·Memᴰ r rows → T (holds r)
-unfolding every holds inBits fromBits allAre bytes symbols legible bits number width syndrome pair ones sumOfPlaces sumFrom firstPower flips lefts puts linked firstWith repair total check sep syndromeOf separator marker block segment lastOf size cut joined written extent strandOf same firstEdit judged isPrefix twoEqual threeEqual separatorAt checkAgrees syndromeAgrees repaired messageAt messageWithout readMessage clean endOf readSegment above pairs firstStart scan reading asSymbols hasUnknown
+unfolding every holds inBits fromBits allAre bytes symbols legible bits number width syndrome pair ones sumOfPlaces sumFrom firstPower flips lefts
+    puts linked firstWith repair total check sep syndromeOf separator marker block segment lastOf size cut joined written extent strandOf same
+    firstEdit judged isPrefix twoEqual threeEqual separatorAt checkAgrees syndromeAgrees repaired messageAt messageWithout readMessage clean endOf
+    readSegment above pairs firstStart scan reading asSymbols hasUnknown
 rows-hold = of-every rows tt

@@ -3,8 +3,7 @@
 --   as-below                     which symbols
 --   as-append, as-take, as-drop  parts of letters
 --   as-same, as-known            letters that are symbols
---   has-append, has-take,        an N among parts of letters
---   has-drop
+--   has-take, has-drop           an N among parts of letters
 --   asSymbol, as-fits,           edits
 --   as-applied
 --   prefix-letters               a block of symbols at the front of letters
@@ -80,15 +79,6 @@ as-known (c ∷ l) h =
     rw (e, as-known l (p .1))
 
 -- An N among letters
-
-or-assoc : (a b c : Bool) → ((a || b) || c) ≡ (a || (b || c))
-or-assoc true b c = refl
-or-assoc false b c = refl
-
-pub has-append : (u v : List ℕ) → hasUnknown (u ++ v) ≡ (hasUnknown u || hasUnknown v)
-unfolding hasUnknown
-has-append [] v = refl
-has-append (c ∷ u) v = rw (has-append u v) (sym (or-assoc (ltb 3 c) (hasUnknown u) (hasUnknown v)))
 
 -- a part of letters without an N has none
 pub has-take : (n : ℕ) (l : List ℕ) → hasUnknown l ≡ false → hasUnknown (take n l) ≡ false
