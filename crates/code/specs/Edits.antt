@@ -1,5 +1,6 @@
 -- Edits of one segment.
 --   applied   a list under an edit
+--   placeOf   the place of an edit
 --   Fits      the edit's place is one of the list's, and its letter is one
 --   same      two lists are equal, as a test
 --   judged    the edit that turns a written segment into a piece, the smallest place first
@@ -19,6 +20,13 @@ applied None w = w
 applied (Sub i x) w = set w i x
 applied (Del i x) w = leaveOut i w
 applied (Ins i x) w = putIn i x w
+
+-- the place of an edit; no edit counts as the first place
+abbrev pub placeOf : Edit → ℕ
+placeOf None = 0
+placeOf (Sub i x) = i
+placeOf (Del i x) = i
+placeOf (Ins i x) = i
 
 -- the letter left out or replaced is one of n; the letter put in stands before one of them or after the last; there are q letters
 abbrev pub Fits : ℕ → Edit → ℕ → Type 0

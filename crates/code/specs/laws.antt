@@ -31,6 +31,7 @@ pub mod OneSegment
 pub mod CleanLetters
 pub mod WithinLimits
 pub mod ReceivedSegment
+pub mod ReadSegment
 pub mod Strands
 pub mod WithoutUnknown
 pub mod Regained

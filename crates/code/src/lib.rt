@@ -100,3 +100,9 @@ pub enum Verdict {
     Lost(u8),
     NoStart,
 }
+
+// What asking for the verdict of one segment answers; its edit carries the number of the letter, N among the received ones.
+pub enum Reported {
+    Said(Verdict),
+    Refused(Refusal),
+}

@@ -4,6 +4,8 @@
 --   fromWrote     the answer of a writing
 --   fromCounted   the answer of a reading
 --   fromLocated   the answer of a piece call
+--   fromVerdict   a verdict
+--   fromReported  the answer of a verdict call
 --   fromLabelled  the answer of a label that is read
 --   asTally       a tally as the tally call takes it
 --   fromTallied   the answer of adding to a tally
@@ -16,14 +18,20 @@ use Rattle.code.specs.declared.Counted.{Counted}
 use Rattle.code.specs.declared.Counted.the-variants as N
 use Rattle.code.specs.declared.Located.{Located}
 use Rattle.code.specs.declared.Located.the-variants as L
+use Rattle.code.specs.declared.Verdict.{Verdict}
+use Rattle.code.specs.declared.Reported.{Reported}
+use Rattle.code.specs.declared.Reported.the-variants as R
 use Rattle.code.specs.declared.Labelled.{Labelled}
 use Rattle.code.specs.declared.Tally as code-tally
 use Rattle.code.specs.declared.Tallied as code-tallied
 use Rattle.code.specs.declared.Tallied.the-variants as T
+use Rattle.code.specs.Symbols.{letterOf}
 use Rattle.code.specs.Refusals.{numberOf, placeOf, testNumber}
+use Rattle.report.specs.Numbers.{kindOf, atOf, letterByte, stepOf}
 use Rattle.dnalm.specs.declared.Written.{Written}
 use Rattle.dnalm.specs.declared.Counts.{Counts}
 use Rattle.dnalm.specs.declared.Piece.{Piece}
+use Rattle.dnalm.specs.declared.Said.{Said}
 use Rattle.dnalm.specs.declared.Order.{Order}
 use Rattle.dnalm.specs.declared.Tally.{Tally}
 use Rattle.dnalm.specs.declared.Tallied.{Tallied}
@@ -52,6 +60,22 @@ fromCounted (N.Refused r) = record { refusal = numberOf r; place = placeOf r; cl
 abbrev pub fromLocated : Located → Piece
 fromLocated (L.At start end) = record { refusal = 0; place = 0; start = start; length = end - start }
 fromLocated (L.Refused r) = record { refusal = numberOf r; place = placeOf r; start = 0; length = 0 }
+
+-- an edit of a kind, with its place and its letter, and a verdict without an edit, with the step that lost its segment or 0
+abbrev pub editNumbers : ℕ → ℕ → ℕ → Said
+editNumbers kind at x = record { refusal = 0; place = 0; kind = kind; at = at; letter = letterOf x; step = 0 }
+
+abbrev pub plainNumbers : ℕ → ℕ → Said
+plainNumbers kind step = record { refusal = 0; place = 0; kind = kind; at = 0; letter = 0; step = step }
+
+-- a verdict: its kind, and the place and the letter of its edit, or the step that lost its segment
+abbrev pub fromVerdict : Verdict → Said
+fromVerdict v = record { refusal = 0; place = 0; kind = kindOf v; at = atOf v; letter = letterByte v; step = stepOf v }
+
+-- the answer of a verdict call
+abbrev pub fromReported : Reported → Said
+fromReported (R.Said v) = fromVerdict v
+fromReported (R.Refused r) = record { refusal = numberOf r; place = placeOf r; kind = 0; at = 0; letter = 0; step = 0 }
 
 -- the answer of a label that is read
 abbrev pub fromLabelled : Labelled → Order

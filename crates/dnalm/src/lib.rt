@@ -7,15 +7,20 @@ ghost use Rattle.code.specs.Refusals.{testNumber};
 ghost use Rattle.code.specs.Writing.{writeCall};
 ghost use Rattle.code.specs.ReadCall.{readCall, locateCall};
 ghost use Rattle.code.specs.Order.{order};
+ghost use Rattle.report.specs.ReportCall.{reportCall, verdictCall};
 ghost use Rattle.code.specs.Label.{labelCall, labelRead};
 ghost use Rattle.code.specs.Tallies.{tallied};
-ghost use Rattle.dnalm.specs.CallAnswers.{answered, fromLetter, fromWrote, fromCounted, fromLocated, fromLabelled, asTally, fromTallied};
+ghost use Rattle.dnalm.specs.CallAnswers.{answered, fromLetter, fromWrote, fromCounted, fromLocated, editNumbers, plainNumbers, fromVerdict, fromReported, fromLabelled, asTally, fromTallied};
 ghost use Rattle.dnalm.specs.Demand3Counts.{Demand-3-counts};
 use code::Checked;
 use code::Counted;
+use code::Edit;
 use code::Letter;
 use code::Located;
+use code::Reported;
+use code::Verdict;
 use code::Wrote;
+use report::lines::letter_of;
 
 // What a writing answers: how many bytes were written; of a strand, its letters.
 #[repr(C)]
@@ -42,6 +47,18 @@ pub struct Piece {
     pub place: usize,
     pub start: usize,
     pub length: usize,
+}
+
+// What a verdict call answers: the kind of what is said of a segment, 0 clean, 1 unknown, 2 sub, 3 del, 4 ins, 5 lost in a step, 6 lost for want of a
+// start; the place of its edit in the written segment, from 0, and its letter in ASCII; the step that lost it. What it does not have is 0.
+#[repr(C)]
+pub struct Said {
+    pub refusal: u32,
+    pub place: usize,
+    pub kind: u32,
+    pub at: usize,
+    pub letter: u8,
+    pub step: u8,
 }
 
 // What reading a label answers: B, and the layout, which is the first `count` of `lengths`.
@@ -171,6 +188,82 @@ pub extern "C" fn dnalm_piece(lengths: &[u16], b: u32, letters: &[u8], segment: 
             place: refusal::place_of(r),
             start: 0,
             length: 0,
+        },
+    }
+}
+
+// Writes a line for each segment to the front of `out`, as `report::write` does.
+#[no_mangle]
+pub extern "C" fn dnalm_report(lengths: &[u16], b: u32, letters: &[u8], out: &mut [u8]) -> Written
+    ensures { λ r. do
+      let o = order (now (lengths .entry)) b in
+          ⌜ (r, now (out .exit)) ≡ answered fromWrote (reportCall o (now (letters .entry)) (now (out .entry))) ⌝ }
+{
+    told(report::write(lengths, b, letters, out))
+}
+
+// An edit in numbers.
+fn edit_told(kind: u32, at: usize, x: u8) -> Said
+    ensures { λ r. ⌜ r ≡ editNumbers kind at x ⌝ }
+{
+    Said {
+        refusal: 0,
+        place: 0,
+        kind,
+        at,
+        letter: letter_of(x),
+        step: 0,
+    }
+}
+
+// A verdict without an edit in numbers.
+fn plain_told(kind: u32, step: u8) -> Said
+    ensures { λ r. ⌜ r ≡ plainNumbers kind step ⌝ }
+{
+    Said {
+        refusal: 0,
+        place: 0,
+        kind,
+        at: 0,
+        letter: 0,
+        step,
+    }
+}
+
+// A verdict in numbers.
+fn verdict_told(v: Verdict) -> Said
+    ensures { λ r. ⌜ r ≡ fromVerdict v ⌝ }
+{
+    match v {
+        Verdict::Read(e) => match e {
+            Edit::None => plain_told(0, 0),
+            Edit::Sub(i, x) => edit_told(2, i, x),
+            Edit::Del(i, x) => edit_told(3, i, x),
+            Edit::Ins(i, x) => edit_told(4, i, x),
+        },
+        Verdict::Unknown => plain_told(1, 0),
+        Verdict::Lost(step) => plain_told(5, step),
+        Verdict::NoStart => plain_told(6, 0),
+    }
+}
+
+// Answers what happened to a segment, from 1, as `report::verdict` does.
+#[no_mangle]
+pub extern "C" fn dnalm_verdict(lengths: &[u16], b: u32, letters: &[u8], segment: u32) -> Said
+    ensures { λ r. do
+      let o = order (now (lengths .entry)) b in
+          ⌜ r ≡ fromReported (verdictCall o (now (letters .entry)) segment) ⌝ }
+{
+    let reported = report::verdict(lengths, b, letters, segment);
+    match reported {
+        Reported::Said(v) => verdict_told(v),
+        Reported::Refused(r) => Said {
+            refusal: refusal::number_of(r) as u32,
+            place: refusal::place_of(r),
+            kind: 0,
+            at: 0,
+            letter: 0,
+            step: 0,
         },
     }
 }

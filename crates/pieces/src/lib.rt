@@ -3,7 +3,8 @@ use code::Checked;
 use code::Decoded;
 use code::Located;
 use code::Refusal;
-use reading::read_layout;
+use reading::read_order;
+use reading::start_of;
 use refusal::received_test;
 ghost use mathlib.Core.Path.{_≡_};
 ghost use Prim.Native.Nat.{_<_, _≤_};
@@ -20,24 +21,9 @@ fn span_of(lengths: &[u16], b: u32, letters: &[u8], unknown: bool, i: usize) -> 
     requires { ⌜ Taken (order (now lengths) b) × (i < length (now lengths)) ⌝ }
     ensures { λ r. ⌜ r ≡ locatedAs (outcomes (now (lengths .entry)) (now (letters .entry))) i ⌝ }
 {
-    let mut symbols = [0u8; 512];
-    let mut verdicts = [0u32; 64];
-    let mut ends = [0u16; 64];
-    let n = 4 * b as usize;
-    let l = lengths.len();
-    read_layout(
-        lengths,
-        letters,
-        unknown,
-        &mut symbols[..n],
-        &mut verdicts[..l],
-        &mut ends[..l],
-    );
-    let end = ends[i] as usize;
-    if i == 0 {
-        return Located::At(0, end);
-    }
-    Located::At(ends[i - 1] as usize, end)
+    let found = read_order(lengths, b, letters, unknown);
+    let ends = found.ends;
+    Located::At(start_of(&ends, i), ends[i] as usize)
 }
 
 // Answers where the piece of a segment starts and where it ends, the segments being counted from 1; for callers that take places

@@ -6,11 +6,12 @@
 --   front-put                                      the front of an array that a call was lent
 --   front-below                                    symbols at the front of an array
 --   over-front                                     what a call leaves at the front of a buffer
---   messages-length, numbers-length, marks-length  how much a reading gives
-use mathlib.Core.Path.{_≡_, sym, ap, subst, _∙_}
+--   length-ends, messages-length, numbers-length,  how much a reading gives
+--   ends-length, marks-length
+use mathlib.Core.Path.{_≡_, refl, sym, ap, subst, _∙_}
 use mathlib.Core.Bool.{false}
-use mathlib.Core.List.{List, _++_, map}
-use Prim.Native.Nat.{ℕ, _*_, _≤_}
+use mathlib.Core.List.{List, [], _∷_, _++_, map}
+use Prim.Native.Nat.{ℕ, suc, _+_, _*_, _≤_}
 use native.Mathlib.Omega.{arith}
 use lib.ListN.{length, take, drop, replicate, length-append, length-map}
 use lib.Seq.{take-at, length-take-le}
@@ -26,6 +27,7 @@ use Rattle.code.specs.Verdicts.{verdictNumber}
 use Rattle.code.specs.Buffers.{overFront}
 use Rattle.code.specs.laws.Strands.{length-reading}
 use Rattle.code.specs.laws.MessageLengths.{length-messages}
+use Rattle.reading.specs.Walks.{endsFrom}
 
 -- the first n entries of the array a are y
 pub record Front (n : ℕ) (y a : List ℕ) : Type 0 where
@@ -58,6 +60,12 @@ front-below n y a f small = subst (Below 4) (sym (f .entries)) small
 pub over-front : (g : List ℕ → List ℕ) (size : ℕ → ℕ) → ((m : List ℕ) → length (g m) ≡ size (length m)) → (t y d out : List ℕ) → t ≡ y → out ≡ g t ++ drop (size (length t)) d → out ≡ overFront (g y) d
 over-front g size law t y d out q e = e ∙ ap (λ (m : List ℕ). g m ++ drop (size (length m)) d) q ∙ ap (λ (n : ℕ). g y ++ drop n d) (sym (law y))
 
+-- an end for each outcome
+pub length-ends : (p : ℕ) (os : List Outcome) → length (endsFrom p os) ≡ length os
+unfolding endsFrom
+length-ends p [] = refl
+length-ends p (o ∷ os) = ap suc (length-ends (p + length (o .piece)) os)
+
 -- The reading of an order that is taken
 module _ (o : Order) (t : Taken o) where
   pub lent-symbols : length {A = ℕ} (take (4 * o .b) (replicate 512 0)) ≡ 4 * o .b
@@ -78,6 +86,9 @@ module _ (o : Order) (t : Taken o) where
 
     pub numbers-length : length (map verdictNumber (verdictsOf os)) ≡ length (o .lengths)
     numbers-length = simp length-map outcomes-length
+
+    pub ends-length : length (endsFrom 0 os) ≡ length (o .lengths)
+    ends-length = length-ends 0 os ∙ outcomes-length
 
     pub marks-length : length (marksOf (verdictsOf os)) ≡ length (o .lengths)
     marks-length = simp length-map outcomes-length

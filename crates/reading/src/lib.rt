@@ -13,9 +13,10 @@ ghost use Rattle.code.specs.Symbols.{asSymbols, hasUnknown};
 ghost use Rattle.code.specs.Limits.{mostLetters};
 ghost use Rattle.code.specs.Bounds.{longest, Received};
 ghost use Rattle.code.specs.Layout.{Lengths};
+ghost use Rattle.code.specs.Order.{order, Taken};
 ghost use Rattle.code.specs.Strands.{told};
 ghost use Rattle.code.specs.Verdicts.{verdictNumber, verdictOf};
-ghost use Rattle.reading.specs.Walks.{Lent, Walked};
+ghost use Rattle.reading.specs.Walks.{Lent, Walked, startIn, FoundIn};
 
 // The number of what is said of a segment by its piece: no edit becomes unknown where an N is among its letters. Pieces of a strand without N are
 // not looked at.
@@ -108,4 +109,43 @@ pub fn read_layout(
         return;
     }
     read_segments(lengths, letters, letters, false, symbols, verdicts, ends)
+}
+
+// What a walk finds of the segments of an order, in front of zeros: the numbers of their verdicts, and where each ends.
+pub struct Found {
+    pub verdicts: [u32; 64],
+    pub ends: [u16; 64],
+}
+
+// Reads the segments of an order for what is said of them and where they stand; their messages are left.
+pub fn read_order(lengths: &[u16], b: u32, letters: &[u8], unknown: bool) -> Found
+    requires { ⌜ (length (now letters) ≤ mostLetters) × (unknown ≡ hasUnknown (now letters)) ⌝ }
+    requires { ⌜ Taken (order (now lengths) b) ⌝ }
+    ensures { λ r. ⌜ FoundIn (now (lengths .entry)) (now (letters .entry)) (r .verdicts) (r .ends) ⌝ }
+{
+    let mut symbols = [0u8; 512];
+    let mut verdicts = [0u32; 64];
+    let mut ends = [0u16; 64];
+    let n = 4 * b as usize;
+    let l = lengths.len();
+    read_layout(
+        lengths,
+        letters,
+        unknown,
+        &mut symbols[..n],
+        &mut verdicts[..l],
+        &mut ends[..l],
+    );
+    Found { verdicts, ends }
+}
+
+// Where the piece behind the first i starts: where the one before it ends.
+pub fn start_of(ends: &[u16], i: usize) -> usize
+    requires { ⌜ i ≤ length (now ends) ⌝ }
+    ensures { λ r. ⌜ r ≡ startIn (now (ends .entry)) i ⌝ }
+{
+    if i == 0 {
+        return 0;
+    }
+    ends[i - 1] as usize
 }

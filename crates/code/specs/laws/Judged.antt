@@ -2,26 +2,21 @@
 -- edit is not enough.
 use mathlib.Core.Path.{_≡_, refl, sym, ap, subst, _∙_}
 use mathlib.Core.Bool.{Bool, true, false, cond, _||_, true≢false}
-use mathlib.Core.List.{List, [], _∷_}
+use mathlib.Core.List.{List, [], _∷_, append-nil}
 use mathlib.Core.Logic.{⊎-elim}
 use mathlib.Core.Option.{some, none}
 use Prim.Native.Nat.{ℕ, zero, suc, _+_, _-_, _≤_, _<_}
 use native.Mathlib.Nat.{eq-or-lt-of-le, lt-of-not-le, not-suc-le-zero, le-of-suc-le-suc}
 use native.Mathlib.Omega.{arith}
-use lib.ListN.{length, getD, set}
-use lib.Seq.{getD-set-same}
+use native.Mathlib.Decide.{decLe}
+use lib.ListN.{length, getD, set, drop-of-length-le}
+use lib.Seq.{take-all, take-length, drop-length, getD-set-same, set-out}
+use Rattle.code.specs.Symbols.{Below}
 use Rattle.code.specs.Repair.{putIn, leaveOut}
-use Rattle.code.specs.Edits.{applied, Fits, same, firstEdit, judged}
+use Rattle.code.specs.Edits.{applied, placeOf, Fits, same, firstEdit, judged}
 use Rattle.code.specs.laws.Edits.{same-refl, same-true}
 use Rattle.code.specs.declared.Edit.{Edit}
 use Rattle.code.specs.declared.Edit.the-variants.{None, Sub, Del, Ins}
-
--- the place of an edit; no edit counts as the first place
-abbrev pub placeOf : Edit → ℕ
-placeOf None = 0
-placeOf (Sub i x) = i
-placeOf (Del i x) = i
-placeOf (Ins i x) = i
 
 module _ (w v : List ℕ) where
   turns : Edit → Bool
@@ -186,6 +181,84 @@ same-yes w v e = rw e (same-refl v)
 pub judged-same : (w v : List ℕ) → w ≡ v → judged w v ≡ some None
 unfolding judged
 judged-same w v e = rw (same-yes w v e)
+
+-- past the end an edit changes nothing, but for an insertion, which stands at the end
+left-past : (w : List ℕ) (i : ℕ) → length w ≤ i → leaveOut i w ≡ w
+left-past w i h = let past : length w ≤ suc i = omega arith in rw (take-all i w h, drop-of-length-le w past) (append-nil w)
+
+put-past : (w : List ℕ) (i x : ℕ) → length w ≤ i → putIn i x w ≡ putIn (length w) x w
+put-past w i x h = rw (take-all i w h, drop-of-length-le w h, take-length w, drop-length w)
+
+-- the named place is one of the segment's, and the named letter is one
+module _ (w v : List ℕ) (v4 : Below 4 v) where
+  pub judged-fits : (e : Edit) → judged w v ≡ some e → Fits 4 e (length w)
+  judged-fits None q = tt
+  judged-fits (Sub i x) q = go (decLe (length w) i)
+    where
+      t : set w i x ≡ v
+      t = judged-named w v (Sub i x) q .gives
+
+      go : Dec (length w ≤ i) → (i < length w) × (x < 4)
+      go (yes h) = let s = judged-same w v (sym (set-out w i x h) ∙ t) in let z : _≡_ {A = ℕ} 0 1 = cc in absurd (omega arith)
+      go (no h) =
+          let l : i < length w = lt-of-not-le h in
+          let g : getD v i 0 ≡ x = rw (← t) (getD-set-same w i x 0 l) in
+          (l, omega (arith, v4 i))
+  judged-fits (Del i x) q = go (decLe (length w) i)
+    where
+      t : leaveOut i w ≡ v
+      t = judged-named w v (Del i x) q .gives
+
+      go : Dec (length w ≤ i) → i < length w
+      go (yes h) = let s = judged-same w v (sym (left-past w i h) ∙ t) in let z : _≡_ {A = ℕ} 0 1 = cc in absurd (omega arith)
+      go (no h) = lt-of-not-le h
+  judged-fits (Ins i x) q = go (decLe (length w) i)
+    where
+      n : Named w v (Ins i x)
+      n = judged-named w v (Ins i x) q
+
+      small : (p : ℕ) → p ≤ length w → putIn p x w ≡ v → x < 4
+      small p h t = let g : getD v p 0 ≡ x = rw (← t) (put-at p x w h) in omega (arith, v4 p)
+
+      go : Dec (length w ≤ i) → (i ≤ length w) × (x < 4)
+      go (yes h) =
+          let t : putIn (length w) x w ≡ v = sym (put-past w i x h) ∙ n .gives in
+          let s = small (length w) (omega arith) t in
+          (n .smallest (Ins (length w) x) (omega arith, s) t, s)
+      go (no h) = let l : i < length w = lt-of-not-le h in (omega arith, small i (omega arith) (n .gives))
+
+-- the letter of a deletion is the written one
+module _ (w v : List ℕ) (i x : ℕ) where
+  first-left : (j n : ℕ) → firstEdit w v j n ≡ some (Del i x) → x ≡ getD w i 0
+  unfolding firstEdit
+  first-left j zero q = let z : _≡_ {A = ℕ} 0 1 = cc in absurd (omega arith)
+  first-left j (suc n) q = go (same (applied sub w) v) (same (applied del w) v) (same (applied ins w) v) q (λ r. first-left (suc j) n r)
+    where
+      sub : Edit
+      sub = Sub j (getD v j 0)
+
+      del : Edit
+      del = Del j (getD w j 0)
+
+      ins : Edit
+      ins = Ins j (getD v j 0)
+
+      go : (a b c : Bool) → cond a (some sub) (cond b (some del) (cond c (some ins) (firstEdit w v (suc j) n))) ≡ some (Del i x) → (firstEdit w v (suc j) n ≡ some (Del i x) → x ≡ getD w i 0) → x ≡ getD w i 0
+      go true b c r next = let z : _≡_ {A = ℕ} 0 1 = cc in absurd (omega arith)
+      go false true c r next =
+          let e : j ≡ i = cc in
+          let d : getD w j 0 ≡ x = cc in
+          rw (← e) (sym d)
+      go false false true r next = let z : _≡_ {A = ℕ} 0 1 = cc in absurd (omega arith)
+      go false false false r next = next r
+
+  pub judged-left : judged w v ≡ some (Del i x) → x ≡ getD w i 0
+  unfolding judged
+  judged-left q = go (same w v) q
+    where
+      go : (b : Bool) → cond b (some None) (firstEdit w v 0 (suc (length w))) ≡ some (Del i x) → x ≡ getD w i 0
+      go true r = let z : _≡_ {A = ℕ} 0 1 = cc in absurd (omega arith)
+      go false r = first-left 0 (suc (length w)) r
 
 module _ (w v : List ℕ) where
   -- places that miss are passed over

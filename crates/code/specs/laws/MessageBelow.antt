@@ -24,7 +24,7 @@ use Rattle.code.specs.Layout.{joined}
 use Rattle.code.specs.Reading.{Shift, moved, whole, separatorAt, afterSeparator, checkAgrees, MessageResult, message, bothLayers, repaired, linkOf, taken, messageAt, messageWithout, readWhole, readHit, readMessage, SegmentResult, read, readSegment}
 use Rattle.code.specs.Sheet.{markOf, marksOf}
 use Rattle.code.specs.Strands.{Outcome, scan, unfound, lostAndRest, segmentAndRest, reading, messagesOf, verdictsOf}
-use Rattle.code.specs.laws.MessageLengths.{read-segment-message}
+use Rattle.code.specs.laws.ReadSegment.{read-parts}
 
 -- two layers make symbols
 repaired-below : (l : Link) (t : ℕ) (r w m : List ℕ) → repaired l t r w ≡ message m → Below 4 m
@@ -93,7 +93,7 @@ messages-below marked f (k ∷ ks) s letters small = go (readSegment marked f k 
     scanned step none h = below-append (replicate k 0) (messagesOf (map unfound ks)) (zeros-below k) (unfound-below ks)
 
     go : (r : SegmentResult) → readSegment marked f k ks s letters ≡ r → ((g o : ℕ) → Below 4 (messagesOf (next g o))) → Below 4 (messagesOf (segmentAndRest marked k ks s letters next r))
-    go (read m e o) q h = below-append m (messagesOf (next (lastOf m) o)) (read-message-below marked k s m small (read-segment-message marked f k ks s letters m e o q)) (h (lastOf m) o)
+    go (read m e o) q h = below-append m (messagesOf (next (lastOf m) o)) (read-message-below marked k s m small (read-parts marked f k ks s letters m e o q .gives)) (h (lastOf m) o)
     go (SegmentResult.lost step) q h = scanned step (scan (size marked k) ks s letters) h
 
 mark-below : (v : Verdict) → markOf v < 4

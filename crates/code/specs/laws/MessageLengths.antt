@@ -1,7 +1,6 @@
 -- Every segment's message has as many symbols as the layout says, whatever was received.
 --   separator-inside      a separator that is found lies inside the strand
 --   read-message-length   steps 3 to 7 give k symbols
---   read-segment-message  the message of a segment that is read
 --   read-length           it has k symbols
 --   length-messages       all messages of a reading together
 use mathlib.Core.Path.{_≡_, refl, sym, ap, _∙_}
@@ -21,10 +20,10 @@ use Rattle.code.specs.Links.{sent}
 use Rattle.code.specs.laws.Links.{linked-length}
 use Rattle.code.specs.Repair.{repair}
 use Rattle.code.specs.laws.Repair.{repair-found}
-use Rattle.code.specs.Segment.{check, segment, lastOf, size, dataAt}
+use Rattle.code.specs.Segment.{check, lastOf, size, dataAt}
 use Rattle.code.specs.Layout.{sum, joined, Lengths, done, more}
-use Rattle.code.specs.Edits.{judged}
-use Rattle.code.specs.Reading.{isPrefix, threeEqual, Shift, level, early, late, moved, whole, separatorAt, afterSeparator, checkAgrees, MessageResult, message, bothLayers, repaired, linkOf, taken, messageAt, messageWithout, readWhole, readHit, readMessage, endOf, SegmentResult, read, withEdit, withEnd, withMessage, readSegment}
+use Rattle.code.specs.Reading.{isPrefix, threeEqual, Shift, level, early, late, moved, whole, separatorAt, afterSeparator, checkAgrees, MessageResult, message, bothLayers, repaired, linkOf, taken, messageAt, messageWithout, readWhole, readHit, readMessage, SegmentResult, read, readSegment}
+use Rattle.code.specs.laws.ReadSegment.{read-parts}
 use Rattle.code.specs.Strands.{Outcome, scan, unfound, lostAndRest, segmentAndRest, reading, messagesOf}
 
 three-long : (w : List ℕ) → threeEqual w ≡ true → 3 ≤ length w
@@ -125,26 +124,9 @@ read-message-length marked k s m h e = go marked e
     go true q = marker (whole true s) q
     go false q = wholly s (separatorAt k s) refl q
 
--- the message of a segment that is read is that of steps 3 to 7
-pub read-segment-message : (marked : Bool) (f k : ℕ) (ks s letters m : List ℕ) (e : Edit) (o : ℕ) → readSegment marked f k ks s letters ≡ read m e o → readMessage marked k s ≡ message m
-unfolding readSegment
-read-segment-message marked f k ks s letters m e o t = go (readMessage marked k s) refl t
-  where
-    judging : (n : List ℕ) (p : ℕ) (j : Option Edit) → withEdit n p j ≡ read m e o → n ≡ m
-    judging n p (some d) q = cc
-    judging n p none q = let z : _≡_ {A = ℕ} 0 1 = cc in absurd (omega arith)
-
-    ending : (n : List ℕ) (p : Option ℕ) → withEnd marked f s n p ≡ read m e o → n ≡ m
-    ending n (some p) q = judging n p (judged (segment marked f n) (take p s)) q
-    ending n none q = let z : _≡_ {A = ℕ} 0 1 = cc in absurd (omega arith)
-
-    go : (g : MessageResult) → readMessage marked k s ≡ g → withMessage marked f k ks s letters g ≡ read m e o → readMessage marked k s ≡ message m
-    go (message n) p q = p ∙ ap message (ending n (endOf marked k ks s letters n) q)
-    go (MessageResult.lost step) p q = let z : _≡_ {A = ℕ} 0 1 = cc in absurd (omega arith)
-
 -- a segment that is read has a message of k symbols
 pub read-length : (marked : Bool) (f k : ℕ) (ks s letters m : List ℕ) (e : Edit) (o : ℕ) → 1 ≤ k → readSegment marked f k ks s letters ≡ read m e o → length m ≡ k
-read-length marked f k ks s letters m e o h t = read-message-length marked k s m h (read-segment-message marked f k ks s letters m e o t)
+read-length marked f k ks s letters m e o h t = read-message-length marked k s m h (read-parts marked f k ks s letters m e o t .gives)
 
 -- The whole strand
 

@@ -14,7 +14,8 @@ use Rattle.code.specs.laws.Segment.{length-segment}
 use Rattle.code.specs.Layout.{joined}
 use Rattle.code.specs.Edits.{judged}
 use Rattle.code.specs.laws.Edits.{same-refl}
-use Rattle.code.specs.Reading.{MessageResult, message, SegmentResult, read, lost, readMessage, endOf, clean, readSegment, withMessage, withEdit}
+use Rattle.code.specs.Reading.{message, SegmentResult, read, lost, readMessage, endOf, clean, readSegment}
+use Rattle.code.specs.laws.ReadSegment.{read-parts}
 use Rattle.code.specs.laws.SegmentSteps.{pre, Sees, Final, sees-end, reads-settled}
 use Rattle.code.specs.laws.EditedSegment.{ending, message-edit}
 use Rattle.code.specs.Sheet.{markOf, marksOf, countOf}
@@ -43,16 +44,8 @@ length-reading marked f (k ∷ ks) s letters = go (readSegment marked f k ks s l
 
 -- the last segment ends with the strand
 last-end : (marked : Bool) (f k : ℕ) (s letters m : List ℕ) (e : Edit) (o : ℕ) → readSegment marked f k [] s letters ≡ read m e o → o ≡ length letters
-unfolding readSegment endOf
-last-end marked f k s letters m e o h = go (readMessage marked k s) h
-  where
-    judging : (n : List ℕ) (j : Option Edit) → withEdit n (length letters) j ≡ read m e o → o ≡ length letters
-    judging n (some d) q = cc
-    judging n none q = let z : _≡_ {A = ℕ} 0 1 = cc in absurd (omega arith)
-
-    go : (g : MessageResult) → withMessage marked f k [] s letters g ≡ read m e o → o ≡ length letters
-    go (message n) q = judging n (judged (segment marked f n) (take (length letters) s)) q
-    go (MessageResult.lost step) q = let z : _≡_ {A = ℕ} 0 1 = cc in absurd (omega arith)
+unfolding endOf
+last-end marked f k s letters m e o h = let q = read-parts marked f k [] s letters m e o h .ends in cc
 
 pieces : List Outcome → List ℕ
 pieces os = joined (map (λ (o : Outcome). o .piece) os)

@@ -34,7 +34,8 @@ use Rattle.code.specs.Edits.{applied, same, firstEdit, judged}
 use Rattle.code.specs.Reading.{MessageResult, message, readMessage, endOf, SegmentResult, read, withEdit, withEnd, withMessage, readSegment}
 use Rattle.code.specs.Sheet.{markOf, marksOf}
 use Rattle.code.specs.Strands.{told, Outcome, scan, unfound, lostAndRest, segmentAndRest, reading, outcomes, verdictsOf}
-use Rattle.code.specs.laws.MessageLengths.{read-segment-message, read-length}
+use Rattle.code.specs.laws.ReadSegment.{read-parts}
+use Rattle.code.specs.laws.MessageLengths.{read-length}
 use Rattle.code.specs.laws.MessageBelow.{read-message-below}
 use Rattle.code.specs.laws.LostSteps.{KnownStep, read-message-stepped}
 
@@ -120,27 +121,6 @@ module _ (w v : List ℕ) (w4 : Below 4 w) (v4 : Below 4 v) where
 
 -- One segment
 
--- the edit of a segment that is read is that of step 9
-read-judged : (marked : Bool) (f k : ℕ) (ks s letters m : List ℕ) (e : Edit) (o : ℕ) → readSegment marked f k ks s letters ≡ read m e o → judged (segment marked f m) (take o s) ≡ some e
-unfolding readSegment
-read-judged marked f k ks s letters m e o t = go (readMessage marked k s) t
-  where
-    judging : (n : List ℕ) (p : ℕ) (j : Option Edit) → judged (segment marked f n) (take p s) ≡ j → withEdit n p j ≡ read m e o → judged (segment marked f m) (take o s) ≡ some e
-    judging n p (some d) y q =
-        let a : n ≡ m = cc in
-        let b : p ≡ o = cc in
-        let c : d ≡ e = cc in
-        rw (← a, ← b, ← c) y
-    judging n p none y q = let z : _≡_ {A = ℕ} 0 1 = cc in absurd (omega arith)
-
-    ending : (n : List ℕ) (p : Option ℕ) → withEnd marked f s n p ≡ read m e o → judged (segment marked f m) (take o s) ≡ some e
-    ending n (some p) q = judging n p (judged (segment marked f n) (take p s)) refl q
-    ending n none q = let z : _≡_ {A = ℕ} 0 1 = cc in absurd (omega arith)
-
-    go : (g : MessageResult) → withMessage marked f k ks s letters g ≡ read m e o → judged (segment marked f m) (take o s) ≡ some e
-    go (message n) q = ending n (endOf marked k ks s letters n) q
-    go (MessageResult.lost step) q = let z : _≡_ {A = ℕ} 0 1 = cc in absurd (omega arith)
-
 -- a segment's places are within reach
 size-within : (marked : Bool) (k : ℕ) → k ≤ longest → suc (size marked k) ≤ reach
 unfolding size
@@ -152,8 +132,9 @@ pub read-numbered : (marked : Bool) (f k : ℕ) (ks s letters m : List ℕ) (e :
 read-numbered marked f k ks s letters m e o small some-symbols short t =
     let n : length m ≡ k = read-length marked f k ks s letters m e o some-symbols t in
     let room : suc (length (segment marked f m)) ≤ reach = rw (length-segment marked f m, n) (size-within marked k short) in
-    let below = read-message-below marked k s m small (read-segment-message marked f k ks s letters m e o t) in
-    judged-numbered (segment marked f m) (take o s) (segment-below marked f m below) (below-take o s small) e room (read-judged marked f k ks s letters m e o t)
+    let parts = read-parts marked f k ks s letters m e o t in
+    let below = read-message-below marked k s m small (parts .gives) in
+    judged-numbered (segment marked f m) (take o s) (segment-below marked f m below) (below-take o s small) e room (parts .named)
 
 -- the step that loses a segment
 pub lost-numbered : (marked : Bool) (f k : ℕ) (ks s letters : List ℕ) (step : ℕ) → readSegment marked f k ks s letters ≡ SegmentResult.lost step → Numbered (Lost step)

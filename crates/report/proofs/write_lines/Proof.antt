@@ -1,0 +1,120 @@
+use mathlib.Core.Path.{_≡_, sym, ap, _∙_}
+use mathlib.Core.Bool.{false}
+use mathlib.Core.List.{List}
+use Prim.Native.Nat.{ℕ, _≤_}
+use native.Mathlib.Omega.{arith}
+use borrow.Author.Needs.{needs}
+use lib.ListN.{length, take}
+use lib.Seq.{length-take-le}
+use Rattle.code.specs.laws.Layout.{lengths-within}
+use Rattle.code.specs.Order.{order}
+use Rattle.code.specs.laws.Order.{Ordered, order-fine}
+use Rattle.code.specs.Strands.{outcomes}
+use Rattle.reading.proofs.Spans.{ends-long}
+use Rattle.report.specs.Report.{linesFrom, linesOf}
+use Rattle.report.specs.ReportCall.{mostReport}
+use Rattle.report.specs.laws.Named.{lines-room}
+use Rattle.report.proofs.Outcomes.{Reports, found-reports, numbers-long}
+use Rattle.report.proofs.Calls.{short-report, whole-report}
+use Rattle.report.proofs.write_lines.Statement.{statement}
+use Rattle.report.proofs.write_lines.Tie as tie
+
+-- what holds of the order
+ordered : (b : tie.Start) → Ordered (order (b .args .lengths .now) (b .args .b)) false
+ordered b = order-fine (order (b .args .lengths .now) (b .args .b)) false (b .pre .1)
+
+-- what the walk found is what is reported
+reports : (c : tie.After-read-order) → let b = c .before .before .before .before in Reports (b .args .lengths .now) (b .args .letters .now) (c .read-order .result .verdicts) (c .read-order .result .ends) (lengths-within (ordered b .lengths) (omega arith)) (b .pre .0 .2) (c .read-order .ensures)
+reports c =
+    let b = c .before .before .before .before in
+    let a = b .args in
+    found-reports (a .lengths .now) (a .letters .now) _ _ (lengths-within (ordered b .lengths) (omega arith)) (b .pre .0 .2) (c .read-order .ensures) (omega (arith, ordered b .some-segments))
+
+-- the lines of the outcomes, and that the array holds them
+abbrev lines-of : tie.Start → List ℕ
+lines-of b = linesOf (outcomes (b .args .lengths .now) (b .args .letters .now))
+
+room : (b : tie.Start) → length (lines-of b) ≤ mostReport
+room b = lines-room (b .args .lengths .now) (b .args .letters .now) (lengths-within (ordered b .lengths) (omega arith)) (b .pre .0 .2) (ordered b .most-segments)
+
+numbers : (c : tie.After-read-order) → length (c .before .before .before .before .args .lengths .now) ≤ length (c .read-order .result .verdicts)
+numbers c =
+    let b = c .before .before .before .before in
+    numbers-long (b .args .lengths .now) (b .args .letters .now) _ _ (lengths-within (ordered b .lengths) (omega arith)) (b .pre .0 .2) (c .read-order .ensures)
+
+places : (c : tie.After-read-order) → length (c .before .before .before .before .args .lengths .now) ≤ length (c .read-order .result .ends)
+places c = let b = c .before .before .before .before in ends-long (b .args .lengths .now) (b .args .letters .now) _ (c .read-order .ensures .places)
+
+array-share-prefix-verdicts : tie.Need-array-share-prefix-verdicts
+array-share-prefix-verdicts c = numbers (c .before .before .before)
+
+slice-aggregate-put-lines-2 : tie.Need-slice-aggregate-put-lines-2
+slice-aggregate-put-lines-2 c = sym (length-take-le _ _ (numbers (c .before .before .before .before)))
+
+array-share-prefix-ends : tie.Need-array-share-prefix-ends
+array-share-prefix-ends c = places (c .before .before .before .before)
+
+slice-aggregate-put-lines-3 : tie.Need-slice-aggregate-put-lines-3
+slice-aggregate-put-lines-3 c = sym (length-take-le _ _ (places (c .before .before .before .before .before)))
+
+put-lines-requires : tie.Need-put-lines-requires
+put-lines-requires c κs =
+    let r = reports (c .before .before .before .before .before) in
+    (r .reportable, rw (r .are) (omega (arith, room (c .before .before .before .before .before .before .before .before .before))))
+
+-- they stand at the front of the array
+record Formed (c : tie.After-put-lines) : Type 0 where
+  ends : c .put-lines .result ≡ length (lines-of (c .before .before .before .before .before .before .before .before .before .before))
+  text : take (c .put-lines .result) (c .put-lines .last .0) ≡ lines-of (c .before .before .before .before .before .before .before .before .before .before)
+  inside : c .put-lines .result ≤ length (c .put-lines .last .0)
+
+formed : (c : tie.After-put-lines) → Formed c
+formed c =
+    let r = reports (c .before .before .before .before .before .before) in
+    let e = ap (linesFrom 1) (r .are) in
+    let p = c .put-lines .ensures in
+    record {
+      ends = omega (arith, p .ends, ap length e);
+      text = p .text ∙ e;
+      inside = omega (arith, p .ends, ap length e, room (c .before .before .before .before .before .before .before .before .before .before), c .put-lines .kept .0);
+    }
+
+returns : tie.Need-returns
+returns c =
+    let b = c .before .before .before .before .before .before .before .before .before .before .before .before in
+    short-report (lines-of b) (b .args .out .now) (omega (arith, formed (c .before .before) .ends, c .if1 .taken))
+
+array-share-prefix-lines : tie.Need-array-share-prefix-lines
+array-share-prefix-lines c = formed (c .before .before) .inside
+
+slice-aggregate-put : tie.Need-slice-aggregate-put
+slice-aggregate-put c = sym (length-take-le _ _ (formed (c .before .before .before) .inside))
+
+put-requires : tie.Need-put-requires
+put-requires c κs =
+    let l = c .before .before .before .before .put-lines in
+    omega (arith, length-take-le (l .result) (l .last .0) (formed (c .before .before .before .before) .inside), c .before .before .if1 .left)
+
+returns-2 : tie.Need-returns-2
+returns-2 c =
+    let b = c .before .before .before .before .before .before .before .before .before .before .before .before .before .before .before .before .before in
+    let f = formed (c .before .before .before .before .before .before .before) in
+    whole-report (lines-of b) (b .args .out .now) _ _ _ (f .ends) (f .text) (omega (arith, f .ends, c .before .before .before .before .before .if1 .left)) (c .before .before .put .ensures)
+
+pub write-lines-spec : {M : Type 1} → statement M
+write-lines-spec =
+    tie.close
+    (tie.spec
+    (λ c κs. search needs)
+    (λ c. search needs)
+    array-share-prefix-verdicts
+    slice-aggregate-put-lines-2
+    array-share-prefix-ends
+    slice-aggregate-put-lines-3
+    put-lines-requires
+    returns
+    array-share-prefix-lines
+    slice-aggregate-put
+    put-requires
+    (λ c. search needs)
+    returns-2)
