@@ -1,4 +1,5 @@
 //! Letters written and read a second: the library against the tuned rival, or against the library of another commit.
+//! Letters reported a second: the library's report beside its reading.
 
 #[allow(dead_code)]
 #[path = "../tests/outside/ffi.rs"]
@@ -39,6 +40,7 @@ struct Room {
     strand: [u8; 2048],
     message: [u8; 128],
     sheet: [u8; 16],
+    lines: [u8; 960],
 }
 
 impl Room {
@@ -47,6 +49,7 @@ impl Room {
             strand: [0; 2048],
             message: [0; 128],
             sheet: [0; 16],
+            lines: [0; 960],
         }
     }
 }
@@ -70,6 +73,11 @@ fn read_one(side: Side, lengths: &[u16], b: u32, letters: &[u8], room: &mut Room
         }
         Side::Tuned => tuned::read(lengths, b, letters, message, sheet).unwrap_or([0; 3]),
     }
+}
+
+#[inline(never)]
+fn report_one(lengths: &[u16], b: u32, letters: &[u8], room: &mut Room) -> usize {
+    ffi::report(lengths, b, letters, &mut room.lines).length
 }
 
 #[derive(Clone, Copy, PartialEq, Eq)]
@@ -156,6 +164,15 @@ fn pass(side: Side, job: Job, set: &Set, room: &mut Room) {
     black_box(room);
 }
 
+/// One pass of reports over the set.
+fn report_pass(set: &Set, room: &mut Room) {
+    let (lengths, b) = (black_box(&set.lengths), black_box(set.b));
+    for strand in &set.strands {
+        black_box(report_one(lengths, b, black_box(strand), room));
+    }
+    black_box(room);
+}
+
 /// Both sides give the same answers on the set.
 fn agree(job: Job, set: &Set) {
     let (mut one, mut other) = (Room::new(), Room::new());
@@ -179,6 +196,25 @@ fn agree(job: Job, set: &Set) {
     }
 }
 
+/// The reports on the set have a line for each segment and tell as many clean and lost as the readings.
+fn told(set: &Set) {
+    let mut room = Room::new();
+    let (lengths, b) = (&set.lengths, set.b);
+    for strand in &set.strands {
+        let [clean, _, lost] = read_one(Side::Library, lengths, b, strand, &mut room);
+        let end = report_one(lengths, b, strand, &mut room);
+        let lines = String::from_utf8_lossy(&room.lines[..end]);
+        let with = |word| lines.lines().filter(|line| line.contains(word)).count();
+        if !lines.starts_with("1 ")
+            || lines.lines().count() != lengths.len()
+            || [with(" clean"), with(" lost ")] != [clean as usize, lost as usize]
+        {
+            println!("the report is not that of the reading: lengths {lengths:?} B {b}");
+            exit(1);
+        }
+    }
+}
+
 /// What was measured of both sides.
 struct Measured {
     /// Letters a second in the best round, in millions.
@@ -187,11 +223,11 @@ struct Measured {
     ratio: f64,
 }
 
-fn measure(job: Job, set: &Set) -> Measured {
+/// Measures passes over the set by two sides, which are 0 and 1.
+fn measure(set: &Set, pass: impl Fn(usize, &mut Room)) -> Measured {
     let letters: usize = set.strands.iter().map(Vec::len).sum();
     let passes = ROUND_LETTERS / letters.max(1) + 1;
     let mut room = Room::new();
-    let sides = [Side::Library, Side::Tuned];
     let mut best = [0f64; 2];
     let mut ratios = Vec::new();
     for round in 0..ROUNDS {
@@ -200,7 +236,7 @@ fn measure(job: Job, set: &Set) -> Measured {
             let which = (turn + round) % 2;
             let start = Instant::now();
             for _ in 0..passes {
-                pass(sides[which], job, set, &mut room);
+                pass(which, &mut room);
             }
             let seconds = start.elapsed().as_secs_f64();
             speeds[which] = (letters * passes) as f64 / seconds / 1e6;
@@ -239,6 +275,12 @@ fn rival_takes_n() -> bool {
     read_one(Side::Tuned, &[4], 1, b"ATCGCANAGGC", &mut Room::new()) != [0; 3]
 }
 
+fn put_row(layout: &str, name: &str, measured: Measured) {
+    let row = format!("{layout} {name}");
+    let ([one, other], ratio) = (measured.best, measured.ratio);
+    println!("{row:<28} {one:>9.1} {other:>9.1} {ratio:>7.2}");
+}
+
 fn table() {
     let mut jobs = vec![
         ("write", Job::Write),
@@ -255,15 +297,39 @@ fn table() {
         for &(name, job) in &jobs {
             let set = set(job, &lengths, b);
             agree(job, &set);
-            let measured = measure(job, &set);
-            let row = format!("{layout} {name}");
-            let ([library, rival], ratio) = (measured.best, measured.ratio);
-            println!("{row:<28} {library:>9.1} {rival:>9.1} {ratio:>7.2}");
+            let sides = [Side::Library, Side::Tuned];
+            let measured = measure(&set, |which, room| pass(sides[which], job, &set, room));
+            put_row(layout, name, measured);
         }
     }
 }
 
-/// N readings of a fixed set of strands with k=16, for counting instructions.
+/// The library's report beside its reading.
+fn report_table() {
+    let jobs = [
+        ("untouched", Job::Untouched),
+        ("one-edit", Job::OneEdit),
+        ("damaged", Job::Damaged),
+        ("with N", Job::WithN),
+    ];
+    println!(
+        "million letters a second, best of {ROUNDS} rounds; ratio of times report/read, median"
+    );
+    println!("{:<28} {:>9} {:>9} {:>7}", "", "read", "report", "ratio");
+    for (layout, lengths, b) in layouts() {
+        for (name, job) in jobs {
+            let set = set(job, &lengths, b);
+            told(&set);
+            let measured = measure(&set, |which, room| match which {
+                0 => pass(Side::Library, job, &set, room),
+                _ => report_pass(&set, room),
+            });
+            put_row(layout, name, measured);
+        }
+    }
+}
+
+/// N readings or reports of a fixed set of strands with k=16, for counting instructions.
 fn work(side: &str, b: u32, count: usize) {
     let lengths = &strands::equal_lengths(16, b);
     let mut strands = Vec::new();
@@ -272,12 +338,13 @@ fn work(side: &str, b: u32, count: usize) {
     }
     let mut room = Room::new();
     let mut letters = 0;
-    let mut read = |side, strand| read_one(side, lengths, b, black_box(strand), &mut room);
     for strand in strands.iter().cycle().take(count) {
         letters += strand.len();
+        let strand = black_box(strand);
         black_box(match side {
-            "library" => read(Side::Library, strand),
-            "tuned" => read(Side::Tuned, strand),
+            "library" => read_one(Side::Library, lengths, b, strand, &mut room),
+            "tuned" => read_one(Side::Tuned, lengths, b, strand, &mut room),
+            "report" => [report_one(lengths, b, strand, &mut room) as u32; 3],
             "none" => [0; 3],
             _ => usage(),
         });
@@ -286,7 +353,7 @@ fn work(side: &str, b: u32, count: usize) {
 }
 
 fn usage() -> ! {
-    eprintln!("usage: bench | bench work library|tuned|none B N");
+    eprintln!("usage: bench | bench report | bench work library|tuned|report|none B N");
     exit(2);
 }
 
@@ -295,6 +362,7 @@ fn main() {
     let arguments: Vec<&str> = arguments.iter().map(String::as_str).collect();
     match arguments[..] {
         [] => table(),
+        ["report"] => report_table(),
         ["work", side, b, count] => match (b.parse(), count.parse()) {
             (Ok(b @ (8 | 32 | 128)), Ok(count)) => work(side, b, count),
             _ => usage(),

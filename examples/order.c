@@ -1,4 +1,4 @@
-/* Orders a strand of 32 bytes in segments that are short at its ends, damages two letters, one to an N, and reads the message back by the label. */
+/* Orders 32 bytes in segments that are short at the ends, damages two letters, one to an N, reads the message back by the label and reports. */
 #include "dnalm.h"
 #include <stdio.h>
 #include <string.h>
@@ -22,6 +22,7 @@ int main(void)
     uint8_t strand[DNALM_MOST_WRITTEN];
     uint8_t message[DNALM_MOST_BYTES];
     uint8_t sheet[DNALM_MOST_SHEET];
+    uint8_t report[DNALM_MOST_REPORT];
 
     dnalm_written labelled = dnalm_write_label(LENGTHS, SEGMENTS, B, label, sizeof label);
     if (refused(labelled.refusal)) {
@@ -60,5 +61,11 @@ int main(void)
             printf("segment %u at %u: %.*s\n", (unsigned)(i + 1), (unsigned)piece.start, (int)piece.length, (const char *)strand + piece.start);
         }
     }
+
+    dnalm_written reported = dnalm_report(order.lengths, order.count, order.b, strand, written.length, report, sizeof report);
+    if (refused(reported.refusal)) {
+        return 1;
+    }
+    printf("%.*s", (int)reported.length, (const char *)report);
     return 0;
 }

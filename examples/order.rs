@@ -1,4 +1,4 @@
-// Orders a strand of 32 bytes in segments that are short at its ends, damages two letters, one to an N, and reads the message back by the label.
+// Orders 32 bytes in segments that are short at the ends, damages two letters, one to an N, reads the message back by the label and reports.
 use std::process::exit;
 
 #[repr(C)]
@@ -63,6 +63,15 @@ extern "C" {
         letters_length: usize,
         segment: u32,
     ) -> Piece;
+    fn dnalm_report(
+        lengths: *const u16,
+        lengths_count: usize,
+        b: u32,
+        letters: *const u8,
+        letters_length: usize,
+        out: *mut u8,
+        out_length: usize,
+    ) -> Written;
     fn dnalm_write_label(
         lengths: *const u16,
         lengths_count: usize,
@@ -114,6 +123,20 @@ fn piece(lengths: &[u16], b: u32, letters: &[u8], segment: u32) -> Piece {
             letters.as_ptr(),
             letters.len(),
             segment,
+        )
+    }
+}
+
+fn report(lengths: &[u16], b: u32, letters: &[u8], out: &mut [u8]) -> Written {
+    unsafe {
+        dnalm_report(
+            lengths.as_ptr(),
+            lengths.len(),
+            b,
+            letters.as_ptr(),
+            letters.len(),
+            out.as_mut_ptr(),
+            out.len(),
         )
     }
 }
@@ -192,4 +215,9 @@ fn main() {
             println!("segment {} at {}: {text}", i + 1, at.start);
         }
     }
+
+    let mut lines = [0; 960];
+    let reported = report(lengths, order.b, letters, &mut lines);
+    taken(reported.refusal, reported.place);
+    print!("{}", String::from_utf8_lossy(&lines[..reported.length]));
 }

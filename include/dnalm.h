@@ -1,5 +1,5 @@
 /*
- * DNA-LM strands: letters, writing, reading, the pieces of segments, labels and tallies.
+ * DNA-LM strands: letters, writing, reading, the pieces of segments, reports, labels and tallies.
  *
  * A message of B bytes is 4B symbols. It is written in the letters A, T, C and G, as l segments.
  * A layout lists their lengths, the symbols of the message in each segment from the first to the last:
@@ -46,7 +46,8 @@ enum {
     DNALM_MOST_LETTERS = 2048,  /* letters of a received strand */
     DNALM_MOST_WRITTEN = 1198,  /* letters of a written strand; with a letter added in each segment 1,262 */
     DNALM_MOST_SHEET = 16,      /* bytes of a sheet */
-    DNALM_MOST_LABEL = 59       /* bytes of a label */
+    DNALM_MOST_LABEL = 59,      /* bytes of a label */
+    DNALM_MOST_REPORT = 960     /* bytes of a report: 64 lines of at most 15 */
 };
 
 /* The refusals by their numbers. */
@@ -76,11 +77,22 @@ enum {
     DNALM_LOST = 2
 };
 
+/* What is said of a segment: the kinds of dnalm_said. */
+enum {
+    DNALM_SAID_CLEAN = 0,       /* it stands as it was written */
+    DNALM_SAID_UNKNOWN = 1,     /* it stands as it was written, but for N in the place of A */
+    DNALM_SAID_SUB = 2,         /* a letter was changed */
+    DNALM_SAID_DEL = 3,         /* a letter was left out */
+    DNALM_SAID_INS = 4,         /* a letter was put in */
+    DNALM_SAID_LOST = 5,        /* it is lost in a reading step */
+    DNALM_SAID_LOST_START = 6   /* it is lost since no start was found for it */
+};
+
 /* What a writing answers. */
 typedef struct dnalm_written {
     uint32_t refusal;
-    size_t place;               /* always 0 */
-    size_t length;              /* the bytes that are written: the letters of a strand, the bytes of a label */
+    size_t place;               /* of a strand and of a label always 0 */
+    size_t length;              /* the bytes that are written: the letters of a strand, the bytes of a label or of a report */
 } dnalm_written;
 
 /* What a reading answers: how many segments have each mark, together l. */
@@ -99,6 +111,16 @@ typedef struct dnalm_piece_at {
     size_t start;
     size_t length;
 } dnalm_piece_at;
+
+/* What happened to a segment. What its kind does not have is 0. */
+typedef struct dnalm_said {
+    uint32_t refusal;
+    size_t place;
+    uint32_t kind;              /* also 0 where the call is refused */
+    size_t at;                  /* sub, del, ins: the place in the written segment, from 0 */
+    uint8_t letter;             /* sub, ins: the received letter, N too; del: the written one */
+    uint8_t step;               /* lost: the step, 3, 6, 7, 8 or 9 */
+} dnalm_said;
 
 /* What a label says: B, and the layout of the first count lengths. */
 typedef struct dnalm_order {
@@ -170,6 +192,37 @@ dnalm_counts dnalm_read(const uint16_t *lengths, size_t lengths_count, uint32_t 
 dnalm_piece_at dnalm_piece(const uint16_t *lengths, size_t lengths_count, uint32_t b,
                            const uint8_t *letters, size_t letters_length,
                            uint32_t segment);
+
+/*
+ * Writes a report of that reading to the front of out: a line for each segment, which is its number from 1,
+ * a space, what happened to it and a line feed.
+ *
+ *     clean          it stands as it was written
+ *     sub 7 C        the letter at place 7 of the written segment was changed to C
+ *     del 7 C        the letter C at place 7 was left out
+ *     ins 7 C        C was put in behind the first 7 letters
+ *     unknown        it stands as it was written, but for N in the place of A
+ *     lost 8         it is lost in that reading step: 3, 6, 7, 8 or 9
+ *     lost start     it is lost since no start was found for it
+ *
+ * Places are counted from 0, in the segment written anew from the message that was read. Of several that fit,
+ * N taken as A, it is the smallest. A received letter may be N.
+ *
+ * Refused, in this order: 1, 2, 3, 4, 6, 5 where out has fewer bytes than these lines; DNALM_MOST_REPORT are
+ * enough for any. The bytes of out behind the lines are untouched.
+ */
+dnalm_written dnalm_report(const uint16_t *lengths, size_t lengths_count, uint32_t b,
+                           const uint8_t *letters, size_t letters_length,
+                           uint8_t *out, size_t out_length);
+
+/*
+ * Answers what the line of one segment says, in numbers; the first segment is 1.
+ *
+ * Refused, in this order: 1, 2, 3, 4, 6, 9. It writes to nothing.
+ */
+dnalm_said dnalm_verdict(const uint16_t *lengths, size_t lengths_count, uint32_t b,
+                         const uint8_t *letters, size_t letters_length,
+                         uint32_t segment);
 
 /*
  * Writes the label of a layout and B = b to the front of out, the most significant bit first.

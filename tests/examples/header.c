@@ -1,4 +1,4 @@
-/* What the header says of sizes, empty buffers, letters and refused calls, held against the library. It is C99 and C++ alike. */
+/* What the header says of sizes, empty buffers, letters, reports and refused calls, held against the library. It is C99 and C++ alike. */
 #include "dnalm.h"
 #include <stdio.h>
 #include <stdlib.h>
@@ -139,12 +139,17 @@ static void empty(void)
     dnalm_piece_at p = dnalm_piece(two, 2, 1, NULL, 0, 2);
     EXPECT(p.refusal == DNALM_TAKEN && p.start == 0 && p.length == 0);
     EXPECT(dnalm_piece(two, 2, 1, NULL, 0, 0).refusal == DNALM_NO_SUCH_SEGMENT);
+    EXPECT(dnalm_report(two, 2, 1, NULL, 0, NULL, 0).refusal == DNALM_SHORT_BUFFER);
+    EXPECT(dnalm_verdict(two, 2, 1, NULL, 0, 2).kind == DNALM_SAID_LOST_START);
+    EXPECT(dnalm_verdict(two, 2, 1, NULL, 0, 0).refusal == DNALM_NO_SUCH_SEGMENT);
     EXPECT(dnalm_write_label(two, 2, 1, NULL, 0).refusal == DNALM_SHORT_BUFFER);
     EXPECT(dnalm_read_label(NULL, 0).refusal == DNALM_SHORT_BUFFER);
     EXPECT(dnalm_write(NULL, 0, 1, bytes, 1, NULL, 0).refusal == DNALM_CUT);
     EXPECT(dnalm_write(NULL, 0, 0, NULL, 0, NULL, 0).refusal == DNALM_MESSAGE_SIZE);
     EXPECT(dnalm_read(NULL, 0, 1, NULL, 0, message, 2, sheet, 2).refusal == DNALM_CUT);
     EXPECT(dnalm_piece(NULL, 0, 1, NULL, 0, 0).refusal == DNALM_CUT);
+    EXPECT(dnalm_report(NULL, 0, 1, NULL, 0, NULL, 0).refusal == DNALM_CUT);
+    EXPECT(dnalm_verdict(NULL, 0, 1, NULL, 0, 0).refusal == DNALM_CUT);
     EXPECT(dnalm_write_label(NULL, 0, 1, NULL, 0).refusal == DNALM_CUT);
 }
 
@@ -205,6 +210,59 @@ static void unknown(void)
     EXPECT(dnalm_letter(strand[p.start + 2]) == DNALM_UNKNOWN);
 }
 
+static dnalm_said said(uint32_t kind, size_t at, char letter, uint8_t step)
+{
+    dnalm_said s = {DNALM_TAKEN, 0, kind, at, (uint8_t)letter, step};
+    return s;
+}
+
+static void expect_said(dnalm_said s, dnalm_said e)
+{
+    EXPECT(s.refusal == e.refusal && s.place == e.place && s.kind == e.kind);
+    EXPECT(s.at == e.at && s.letter == e.letter && s.step == e.step);
+}
+
+/* A strand of two segments: its report, in a buffer that is just long enough, and what is said of each segment. */
+static void reported(const char *strand, const char *lines, dnalm_said first, dnalm_said second)
+{
+    static const uint16_t two[2] = {2, 2};
+    const uint8_t *letters = (const uint8_t *)strand;
+    size_t letters_length = strlen(strand);
+    size_t length = strlen(lines);
+    uint8_t out[DNALM_MOST_REPORT];
+    memset(out, 7, sizeof out);
+    EXPECT(dnalm_report(two, 2, 1, letters, letters_length, out, length - 1).refusal == DNALM_SHORT_BUFFER);
+    EXPECT(out[0] == 7);
+    dnalm_written w = dnalm_report(two, 2, 1, letters, letters_length, out, length);
+    EXPECT(w.refusal == DNALM_TAKEN && w.place == 0 && w.length == length);
+    EXPECT(memcmp(out, lines, length) == 0);
+    w = dnalm_report(two, 2, 1, letters, letters_length, out, sizeof out);
+    EXPECT(w.refusal == DNALM_TAKEN && w.length == length && out[length] == 7);
+    expect_said(dnalm_verdict(two, 2, 1, letters, letters_length, 1), first);
+    expect_said(dnalm_verdict(two, 2, 1, letters, letters_length, 2), second);
+    EXPECT(dnalm_verdict(two, 2, 1, letters, letters_length, 3).refusal == DNALM_NO_SUCH_SEGMENT);
+}
+
+/* A line of each kind, and a report of 64 lines. */
+static void reports(void)
+{
+    dnalm_said clean = said(DNALM_SAID_CLEAN, 0, 0, 0);
+    dnalm_said lost_start = said(DNALM_SAID_LOST_START, 0, 0, 0);
+    uint16_t lengths[DNALM_MOST_SEGMENTS];
+    uint8_t out[DNALM_MOST_REPORT];
+    reported("ATTGGGTATTCGTAAAGC", "1 clean\n2 clean\n", clean, clean);
+    reported("ATTGGGTCTTCGTAAAGC", "1 sub 7 C\n2 clean\n", said(DNALM_SAID_SUB, 7, 'C', 0), clean);
+    reported("NTTGGGTATTNGTAAAGC", "1 unknown\n2 sub 2 N\n", said(DNALM_SAID_UNKNOWN, 0, 0, 0), said(DNALM_SAID_SUB, 2, 'N', 0));
+    reported("ATGGGTATTCGTAAAGCN", "1 del 1 T\n2 ins 10 N\n", said(DNALM_SAID_DEL, 1, 'T', 0), said(DNALM_SAID_INS, 10, 'N', 0));
+    reported("ATTGGGTA", "1 clean\n2 lost 3\n", clean, said(DNALM_SAID_LOST, 0, 0, 3));
+    reported("ATTGGGTCATCGTAAAGC", "1 lost 8\n2 lost start\n", said(DNALM_SAID_LOST, 0, 0, 8), lost_start);
+    reported("", "1 lost 6\n2 lost start\n", said(DNALM_SAID_LOST, 0, 0, 6), lost_start);
+    fill(lengths, DNALM_MOST_SEGMENTS, 2);
+    dnalm_written w = dnalm_report(lengths, DNALM_MOST_SEGMENTS, 32, NULL, 0, out, sizeof out);
+    EXPECT(w.refusal == DNALM_TAKEN && w.length == 883 && memcmp(out + 869, "64 lost start\n", 14) == 0);
+    EXPECT(DNALM_MOST_REPORT == 15 * DNALM_MOST_SEGMENTS);
+}
+
 /* A foreign letter behind an N, letters too many and a full tally. */
 static void refused(void)
 {
@@ -218,8 +276,16 @@ static void refused(void)
     EXPECT(c.clean == 0 && c.corrected == 0 && c.lost == 0);
     dnalm_piece_at p = dnalm_piece(two, 2, 1, letters, 18, 1);
     EXPECT(p.refusal == DNALM_FOREIGN_LETTER && p.place == 3 && p.start == 0 && p.length == 0);
+    dnalm_written w = dnalm_report(two, 2, 1, letters, 18, NULL, 0);
+    EXPECT(w.refusal == DNALM_FOREIGN_LETTER && w.place == 3 && w.length == 0);
+    dnalm_said v = said(0, 0, 0, 0);
+    v.refusal = DNALM_FOREIGN_LETTER;
+    v.place = 3;
+    expect_said(dnalm_verdict(two, 2, 1, letters, 18, 3), v);
     c = dnalm_read(two, 2, 1, many, sizeof many, message, 1, sheet, 1);
     EXPECT(c.refusal == DNALM_OVERLONG && c.place == 0);
+    EXPECT(dnalm_report(two, 2, 1, many, sizeof many, NULL, 0).refusal == DNALM_OVERLONG);
+    EXPECT(dnalm_verdict(two, 2, 1, many, sizeof many, 0).refusal == DNALM_OVERLONG);
     EXPECT(message[0] == 7 && sheet[0] == 7);
     memset(many, 'A', sizeof many);
     EXPECT(dnalm_read(two, 2, 1, many, DNALM_MOST_LETTERS, message, 1, sheet, 1).refusal == DNALM_TAKEN);
@@ -237,6 +303,7 @@ int main(void)
     empty();
     labels();
     unknown();
+    reports();
     refused();
     return 0;
 }

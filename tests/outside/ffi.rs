@@ -28,6 +28,17 @@ pub struct Piece {
 }
 
 #[repr(C)]
+#[derive(Clone, Copy, Debug, Default, PartialEq, Eq)]
+pub struct Said {
+    pub refusal: u32,
+    pub place: usize,
+    pub kind: u32,
+    pub at: usize,
+    pub letter: u8,
+    pub step: u8,
+}
+
+#[repr(C)]
 #[derive(Clone, Copy, Debug, PartialEq, Eq)]
 pub struct Order {
     pub refusal: u32,
@@ -85,6 +96,23 @@ extern "C" {
         letters_length: usize,
         segment: u32,
     ) -> Piece;
+    pub fn dnalm_report(
+        lengths: *const u16,
+        lengths_count: usize,
+        b: u32,
+        letters: *const u8,
+        letters_length: usize,
+        out: *mut u8,
+        out_length: usize,
+    ) -> Written;
+    pub fn dnalm_verdict(
+        lengths: *const u16,
+        lengths_count: usize,
+        b: u32,
+        letters: *const u8,
+        letters_length: usize,
+        segment: u32,
+    ) -> Said;
     pub fn dnalm_write_label(
         lengths: *const u16,
         lengths_count: usize,
@@ -139,6 +167,33 @@ pub fn read(
 pub fn piece(lengths: &[u16], b: u32, letters: &[u8], segment: u32) -> Piece {
     unsafe {
         dnalm_piece(
+            lengths.as_ptr(),
+            lengths.len(),
+            b,
+            letters.as_ptr(),
+            letters.len(),
+            segment,
+        )
+    }
+}
+
+pub fn report(lengths: &[u16], b: u32, letters: &[u8], out: &mut [u8]) -> Written {
+    unsafe {
+        dnalm_report(
+            lengths.as_ptr(),
+            lengths.len(),
+            b,
+            letters.as_ptr(),
+            letters.len(),
+            out.as_mut_ptr(),
+            out.len(),
+        )
+    }
+}
+
+pub fn verdict(lengths: &[u16], b: u32, letters: &[u8], segment: u32) -> Said {
+    unsafe {
+        dnalm_verdict(
             lengths.as_ptr(),
             lengths.len(),
             b,

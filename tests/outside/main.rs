@@ -3,17 +3,34 @@
 mod conditions;
 #[allow(dead_code)]
 mod ffi;
+mod lines;
 mod oracle;
+#[allow(dead_code)]
+mod program;
+mod programs;
 mod strands;
+mod truth;
+mod verdicts;
 
-use ffi::{Counts, Order, Piece, Tallied, Tally, Written};
+use ffi::{Counts, Order, Piece, Said, Tallied, Tally, Written};
 use oracle::{Edit, Letter, Refused, Segment, Verdict};
+use program::hex;
 use std::fmt::Debug;
 use std::process::exit;
 use std::sync::atomic::{AtomicU64, Ordering};
 use strands::{Damage, Rng};
+use truth::{decided, Reading};
 
 const GUARD: usize = 64;
+
+/// The bytes that are enough for the lines of every strand.
+const MOST_REPORT: usize = 960;
+
+/// The segments of one strand whose verdicts are asked one by one.
+const MOST_VERDICTS: usize = 4;
+
+/// How seldom the lines of a strand of demand 3 are compared.
+const TOLD_ONCE_IN: u64 = 47;
 
 /// The case under way, for a library that ends the run.
 static SEED: AtomicU64 = AtomicU64::new(0);
@@ -151,6 +168,56 @@ fn turns() -> Vec<Kind> {
     turns
 }
 
+/// The verdicts by name.
+const VERDICTS: [&str; 11] = [
+    "clean", "unknown", "sub", "del", "ins", "step 3", "step 6", "step 7", "step 8", "step 9",
+    "no start",
+];
+
+fn name_of(verdict: Verdict) -> &'static str {
+    match verdict {
+        Verdict::Read(Edit::None) => "clean",
+        Verdict::Unknown => "unknown",
+        Verdict::Read(Edit::Sub { .. }) => "sub",
+        Verdict::Read(Edit::Del { .. }) => "del",
+        Verdict::Read(Edit::Ins { .. }) => "ins",
+        Verdict::Lost { step: 3 } => "step 3",
+        Verdict::Lost { step: 6 } => "step 6",
+        Verdict::Lost { step: 7 } => "step 7",
+        Verdict::Lost { step: 8 } => "step 8",
+        Verdict::Lost { .. } => "step 9",
+        Verdict::NoStart => "no start",
+    }
+}
+
+/// A received strand and its layout as they are lent, B, and the segments by the oracle.
+struct Received<'a> {
+    lengths: &'a [u16],
+    b: u32,
+    letters: &'a [u8],
+    segments: Result<Vec<Segment>, Refused>,
+    layout: Lent<u16>,
+    layout_before: Box<[u16]>,
+    strand: Lent<u8>,
+    strand_before: Box<[u8]>,
+}
+
+impl Received<'_> {
+    /// The bytes of its lines, none where it is refused.
+    fn needed(&self) -> usize {
+        let segments = self.segments.as_deref().unwrap_or_default();
+        oracle::lines(segments).len()
+    }
+
+    fn call(&self, name: &str, number: usize) -> String {
+        let (lengths, letters) = (u16::shown(self.lengths), self.letters.escape_ascii());
+        format!(
+            "{name} lengths {lengths} B {} letters {letters} with {number}",
+            self.b
+        )
+    }
+}
+
 /// What was met, by name.
 struct Met {
     names: Vec<String>,
@@ -165,6 +232,8 @@ impl Met {
             "write",
             "read",
             "piece",
+            "report",
+            "verdict",
             "write label",
             "read label",
             "tally",
@@ -172,16 +241,18 @@ impl Met {
             names.push(format!("{call} taken"));
             names.push(format!("{call} refused"));
         }
-        let verdicts = [
-            "clean", "unknown", "sub", "del", "ins", "step 3", "step 6", "step 7", "step 8",
-            "step 9", "no start", "scanned",
-        ];
-        names.extend(verdicts.map(String::from));
+        for verdict in VERDICTS {
+            names.push(format!("line {verdict}"));
+            names.push(format!("verdict {verdict}"));
+        }
+        let rooms = ["lines fit", "lines a byte short", "room behind lines"];
+        names.extend(rooms.map(String::from));
         let letters = [
             "strand without N",
             "strand with N",
             "N told by sub",
             "N told by ins",
+            "scanned",
             "scanned behind N",
             "lost by N",
             "one-edit strand",
@@ -220,10 +291,6 @@ impl Met {
             .map(|(name, _)| name.clone())
             .collect()
     }
-}
-
-fn hex(bytes: &[u8]) -> String {
-    bytes.iter().map(|byte| format!("{byte:02X}")).collect()
 }
 
 struct Run {
@@ -395,19 +462,36 @@ impl Run {
         (got, message.content().to_vec(), sheet.content().to_vec())
     }
 
-    /// The segments are those of the oracle's reading.
-    fn check_piece(
+    /// The letters behind the strand are lent with it.
+    fn lend_strand<'a>(
         &mut self,
-        lengths: &[u16],
+        lengths: &'a [u16],
         b: u32,
-        letters: &[u8],
+        letters: &'a [u8],
         after: &[u8],
-        segments: &Result<Vec<Segment>, Refused>,
-        segment: u32,
-    ) {
-        let layout = self.lend(lengths, &[]);
-        let lent = self.lend(letters, after);
-        let answer = oracle::piece(segments, segment);
+    ) -> Received<'a> {
+        let (layout, strand) = (self.lend(lengths, &[]), self.lend(letters, after));
+        Received {
+            lengths,
+            b,
+            letters,
+            segments: oracle::segments(lengths, b, letters),
+            layout_before: layout.with(lengths),
+            layout,
+            strand_before: strand.with(letters),
+            strand,
+        }
+    }
+
+    /// A call has left the strand and its layout as they were.
+    fn unchanged(&self, call: &dyn Fn() -> String, received: &Received) {
+        self.same_all(call, "letters", &received.strand_before, &received.strand);
+        self.same_all(call, "lengths", &received.layout_before, &received.layout);
+    }
+
+    /// Hands back the start and the length of the library's piece.
+    fn check_piece(&mut self, received: &Received, segment: u32) -> (usize, usize) {
+        let answer = oracle::piece(&received.segments, segment);
         self.count("piece", &answer);
         let wanted = match answer {
             Ok((start, length)) => Piece {
@@ -423,30 +507,108 @@ impl Run {
                 length: 0,
             },
         };
-        let (layout_before, before) = (layout.with(lengths), lent.with(letters));
-        let (layout_ptr, letters_ptr) = (layout.as_ptr(), lent.as_ptr());
-        let (count, length) = (lengths.len(), letters.len());
-        let got = unsafe { ffi::dnalm_piece(layout_ptr, count, b, letters_ptr, length, segment) };
-        let call = || {
-            let (lengths, letters) = (u16::shown(lengths), letters.escape_ascii());
-            format!("piece lengths {lengths} B {b} letters {letters} segment {segment}")
+        let got = unsafe {
+            ffi::dnalm_piece(
+                received.layout.as_ptr(),
+                received.lengths.len(),
+                received.b,
+                received.strand.as_ptr(),
+                received.letters.len(),
+                segment,
+            )
         };
+        let call = || received.call("piece", segment as usize);
         self.same(&call, wanted, got);
-        self.same_all(&call, "letters", &before, &lent);
-        self.same_all(&call, "lengths", &layout_before, &layout);
+        self.unchanged(&call, received);
+        (got.start, got.length)
     }
 
-    fn check_pieces(
-        &mut self,
-        lengths: &[u16],
-        b: u32,
-        letters: &[u8],
-        after: &[u8],
-        numbers: &[u32],
-    ) {
-        let segments = oracle::segments(lengths, b, letters);
+    /// Hands back the kind of the library's verdict.
+    fn check_verdict(&mut self, received: &Received, segment: u32) -> u32 {
+        let answer = oracle::verdict(&received.segments, segment);
+        self.count("verdict", &answer);
+        let wanted = match answer {
+            Ok(verdict) => {
+                self.met.add(&format!("verdict {}", name_of(verdict)));
+                verdicts::said_of(verdict)
+            }
+            Err(refused) => Said {
+                refusal: refused.number,
+                place: refused.place,
+                ..Said::default()
+            },
+        };
+        let got = unsafe {
+            ffi::dnalm_verdict(
+                received.layout.as_ptr(),
+                received.lengths.len(),
+                received.b,
+                received.strand.as_ptr(),
+                received.letters.len(),
+                segment,
+            )
+        };
+        let call = || received.call("verdict", segment as usize);
+        self.same(&call, wanted, got);
+        self.unchanged(&call, received);
+        got.kind
+    }
+
+    /// Hands back the library's lines.
+    fn check_report(&mut self, received: &Received, room: usize) -> Vec<u8> {
+        let mut out = self.buffer(room);
+        let mut wanted_out = out.content().to_vec();
+        let answer = oracle::report(&received.segments, &mut wanted_out);
+        self.count("report", &answer);
+        match answer {
+            Ok(length) if length < room => self.met.add("room behind lines"),
+            Ok(_) => self.met.add("lines fit"),
+            Err(refused) if refused.number == 5 && room + 1 == received.needed() => {
+                self.met.add("lines a byte short")
+            }
+            Err(_) => {}
+        }
+        let wanted = written_of(answer);
+        let out_wanted = out.with(&wanted_out);
+        let out_ptr = out.as_mut_ptr();
+        let got = unsafe {
+            ffi::dnalm_report(
+                received.layout.as_ptr(),
+                received.lengths.len(),
+                received.b,
+                received.strand.as_ptr(),
+                received.letters.len(),
+                out_ptr,
+                room,
+            )
+        };
+        let call = || received.call("report", room);
+        self.same(&call, wanted, got);
+        self.same_all(&call, "out", &out_wanted, &out);
+        self.unchanged(&call, received);
+        if got.length > MOST_REPORT {
+            let most = format!("at most {MOST_REPORT} bytes");
+            self.disagree(&call(), most, format!("{got:?}"));
+        }
+        out.content()[..got.length].to_vec()
+    }
+
+    /// The lines in a buffer just as long, a byte shorter and longer; hands them back.
+    fn check_lines(&mut self, received: &Received) -> Vec<u8> {
+        let needed = received.needed();
+        let more = self.rng.of(&[1, 1, 2, 40]);
+        self.check_report(received, needed + more);
+        if needed > 0 {
+            self.check_report(received, needed - 1);
+        }
+        self.check_report(received, needed)
+    }
+
+    /// The pieces and the verdicts by the numbers of segments, or of none.
+    fn check_segments(&mut self, received: &Received, numbers: &[u32]) {
         for &segment in numbers {
-            self.check_piece(lengths, b, letters, after, &segments, segment);
+            self.check_piece(received, segment);
+            self.check_verdict(received, segment);
         }
     }
 
@@ -517,23 +679,9 @@ impl Run {
         self.same(&call, wanted, got);
     }
 
-    /// Counts the verdicts of a strand that is read.
-    fn count_verdicts(&mut self, lengths: &[u16], b: u32, letters: &[u8]) {
-        for segment in oracle::segments(lengths, b, letters).unwrap_or_default() {
-            let name = match segment.verdict {
-                Verdict::Read(Edit::None) => "clean",
-                Verdict::Unknown => "unknown",
-                Verdict::Read(Edit::Sub { .. }) => "sub",
-                Verdict::Read(Edit::Del { .. }) => "del",
-                Verdict::Read(Edit::Ins { .. }) => "ins",
-                Verdict::Lost { step: 3 } => "step 3",
-                Verdict::Lost { step: 6 } => "step 6",
-                Verdict::Lost { step: 7 } => "step 7",
-                Verdict::Lost { step: 8 } => "step 8",
-                Verdict::Lost { .. } => "step 9",
-                Verdict::NoStart => "no start",
-            };
-            self.met.add(name);
+    /// Counts what is told of unknown letters and of scans.
+    fn count_verdicts(&mut self, received: &Received) {
+        for segment in received.segments.iter().flatten() {
             match segment.verdict {
                 Verdict::Read(Edit::Sub { letter: b'N', .. }) => self.met.add("N told by sub"),
                 Verdict::Read(Edit::Ins { letter: b'N', .. }) => self.met.add("N told by ins"),
@@ -541,7 +689,7 @@ impl Run {
             }
             if segment.scanned {
                 self.met.add("scanned");
-                if letters[segment.start - 1] == b'N' {
+                if received.letters[segment.start - 1] == b'N' {
                     self.met.add("scanned behind N");
                 }
             }
@@ -647,10 +795,63 @@ impl Run {
         self.check_tally(tally, one);
     }
 
-    fn pieces(&mut self, lengths: &[u16], b: u32, letters: &[u8], after: &[u8]) {
-        let mut numbers: Vec<u32> = (0..=lengths.len() as u32 + 1).collect();
-        numbers.extend([u32::MAX, self.rng.next() as u32]);
-        self.check_pieces(lengths, b, letters, after, &numbers);
+    /// All pieces, some verdicts and the lines, held against the bytes and the counts that the library has read.
+    fn segments(&mut self, received: &Received, read: &[u8], got: Counts) {
+        let last = received.lengths.len() as u32;
+        let random = self.rng.next() as u32;
+        self.check_segments(received, &[0, last + 1, u32::MAX, random]);
+        let mut pieces = Vec::new();
+        let mut numbers: Vec<u32> = (1..=last).collect();
+        for &segment in &numbers {
+            pieces.push(self.check_piece(received, segment));
+        }
+        self.rng.shuffle(&mut numbers);
+        numbers.truncate(MOST_VERDICTS);
+        let mut kinds = [0; 7];
+        for &segment in &numbers {
+            kinds[self.check_verdict(received, segment) as usize] += 1;
+        }
+        let lines = self.check_lines(received);
+        if got.refusal != 0 {
+            return;
+        }
+        if numbers.len() == pieces.len() {
+            let [clean, corrected @ .., lost, no_start] = kinds;
+            let counts = [clean, corrected.iter().sum(), lost + no_start];
+            let call = || received.call("kinds of verdicts", pieces.len());
+            self.same(&call, counts, [got.clean, got.corrected, got.lost]);
+        }
+        self.check_truth(received, read, got, &pieces, &lines);
+    }
+
+    /// What the lines tell is true of the pieces and the message, and sums to the counts.
+    fn check_truth(
+        &mut self,
+        received: &Received,
+        read: &[u8],
+        got: Counts,
+        pieces: &[(usize, usize)],
+        lines: &[u8],
+    ) {
+        let verdicts = verdicts::verdicts_of(lines).unwrap_or_default();
+        let reading = Reading {
+            lengths: received.lengths,
+            letters: received.letters,
+            message: read,
+            pieces,
+            verdicts: &verdicts,
+        };
+        let call = || received.call("truth of lines", lines.len());
+        if let Some((segment, what)) = reading.fault() {
+            let wanted = format!("segment {segment} has {what}");
+            self.disagree(&call(), wanted, lines.escape_ascii().to_string());
+        }
+        let mut counts = [0; 3];
+        for verdict in verdicts {
+            self.met.add(&format!("line {}", name_of(verdict)));
+            counts[oracle::mark(verdict) as usize] += 1;
+        }
+        self.same(&call, counts, [got.clean, got.corrected, got.lost]);
     }
 
     /// Every length of each buffer from 0 up to past the needed one.
@@ -669,6 +870,12 @@ impl Run {
         }
         for room in 0..=strands::label_length(lengths) + 2 {
             self.check_write_label(lengths, b, room);
+        }
+        let received = self.lend_strand(lengths, b, letters, &[]);
+        let lines = received.needed();
+        let random = self.rng.below(lines + 1);
+        for room in (0..12).chain([random]).chain(lines.max(14) - 2..lines + 3) {
+            self.check_report(&received, room);
         }
         for length in 0..=bytes + 2 {
             let message = self.rng.bytes(length);
@@ -708,6 +915,7 @@ impl Run {
         };
         let (message_room, sheet_room) = (room(bytes), room(sheet));
         let label_room = room(strands::label_length(&lengths));
+        let lines_room = room(200);
         let message_length = room(bytes).min(bytes + 1);
         let out_room = room(if taken {
             strands::strand_length(&lengths)
@@ -717,7 +925,10 @@ impl Run {
         self.check_read(&lengths, b, &letters, &[], (message_room, sheet_room));
         let l = if taken { lengths.len() as u32 } else { 64 };
         let inside = 1 + self.rng.below(l as usize) as u32;
-        self.check_pieces(&lengths, b, &letters, &[], &[0, inside, l + 1, u32::MAX]);
+        let received = self.lend_strand(&lengths, b, &letters, &[]);
+        self.check_segments(&received, &[0, inside, l + 1, u32::MAX]);
+        self.check_report(&received, lines_room);
+        self.check_lines(&received);
         let message = self.rng.bytes(message_length);
         self.check_write(&lengths, b, &message, out_room);
         self.check_write_label(&lengths, b, label_room);
@@ -763,7 +974,8 @@ impl Run {
         let more = (self.rng.of(&[0, 0, 1, 30]), self.rng.of(&[0, 0, 1, 30]));
         let rooms = (bytes + more.0, sheet + more.1);
         let (got, read, marks) = self.check_read(&lengths, b, &letters, rest, rooms);
-        self.count_verdicts(&lengths, b, &letters);
+        let received = self.lend_strand(&lengths, b, &letters, rest);
+        self.count_verdicts(&received);
         if got.refusal == 0 {
             self.count_unknown(&lengths, &strand, &letters, got.lost);
         }
@@ -771,12 +983,13 @@ impl Run {
             self.demand(&lengths, &message, &letters, got, &read, &marks);
         }
         if taken {
-            self.pieces(&lengths, b, &letters, rest);
+            self.segments(&received, &read, got);
         } else {
             let written = self.rng.of(&[message.len(), b.min(500) as usize]);
             let message = self.rng.bytes(written);
             self.check_write(&lengths, b, &message, 1200);
-            self.check_pieces(&lengths, b, &letters, rest, &[0, 1, 64, u32::MAX]);
+            self.check_segments(&received, &[0, 1, 64, u32::MAX]);
+            self.check_lines(&received);
         }
         if self.kind == Kind::ShortBuffers {
             self.short_buffers(&lengths, b, &message, &letters);
@@ -842,12 +1055,6 @@ impl Run {
             );
         }
     }
-}
-
-/// The letters with A in the place of each unknown one.
-fn decided(letters: &[u8]) -> Vec<u8> {
-    let decide = |&letter: &u8| if letter == b'N' { b'A' } else { letter };
-    letters.iter().map(decide).collect()
 }
 
 /// Whether each segment is clean or corrected, by the counts and by the sheet.
@@ -916,6 +1123,14 @@ fn library_read(lengths: &[u16], b: u32, letters: &[u8]) -> (Counts, Vec<u8>, Ve
     (got, message, sheet)
 }
 
+/// The lines by the library in a buffer that is long enough.
+fn library_report(lengths: &[u16], b: u32, letters: &[u8]) -> (Written, Vec<u8>) {
+    let mut out = vec![0; MOST_REPORT];
+    let got = ffi::report(lengths, b, letters, &mut out);
+    out.truncate(got.length);
+    (got, out)
+}
+
 fn library_write(lengths: &[u16], b: u32, message: &[u8]) -> (Written, Vec<u8>) {
     let mut out = vec![0; 1500];
     let got = ffi::write(lengths, b, message, &mut out);
@@ -930,6 +1145,8 @@ struct Demand {
     segments: Vec<Vec<u8>>,
     /// Strands read that keep the conditions.
     strands: u64,
+    /// Those whose lines were compared.
+    told: u64,
     /// Strands that an unknown letter alone puts outside the conditions.
     outside: u64,
     /// Those of them with a lost segment.
@@ -964,11 +1181,38 @@ impl Demand {
         got.lost
     }
 
+    /// Both readers tell the same lines, and verdicts by number.
+    fn check_lines(&self, letters: &[u8]) {
+        let (lengths, b) = (&self.lengths, self.message.len() as u32);
+        let (_, lines) = library_report(lengths, b, letters);
+        let segments = oracle::segments(lengths, b, letters).unwrap_or_default();
+        let wanted = oracle::lines(&segments);
+        let said = |number: u32| ffi::verdict(lengths, b, letters, number);
+        let said_same = (1..)
+            .zip(&segments)
+            .all(|(number, segment)| said(number) == verdicts::said_of(segment.verdict));
+        if lines != wanted.as_bytes() || !said_same {
+            println!(
+                "disagreement: demand 3 lengths {} letters {} oracle {wanted:?} library {}",
+                u16::shown(lengths),
+                letters.escape_ascii(),
+                lines.escape_ascii()
+            );
+            exit(1);
+        }
+    }
+
     /// Every stretch of the next segment after those already received.
     fn segment(&mut self, number: usize, received: &[u8], spared: bool) {
         if number == self.segments.len() {
             self.check(received, true);
             self.strands += 1;
+            // Another message has other edits told.
+            let turn = self.strands + u64::from(self.message[0]);
+            if turn.is_multiple_of(TOLD_ONCE_IN) {
+                self.check_lines(received);
+                self.told += 1;
+            }
             return;
         }
         let segment = self.segments[number].clone();
@@ -1006,6 +1250,7 @@ impl Demand {
     fn touched(&mut self, letters: &[u8]) {
         let kept = conditions::kept(&self.lengths, &self.segments.concat(), letters);
         let lost = self.check(letters, kept);
+        self.check_lines(letters);
         self.outside += u64::from(!kept);
         self.lost += u64::from(lost > 0);
     }
@@ -1033,6 +1278,7 @@ fn demand_of(lengths: &[u16], message: &[u8]) -> Demand {
         message: message.to_vec(),
         segments: strands::cut(lengths, &strand),
         strands: 0,
+        told: 0,
         outside: 0,
         lost: 0,
     };
@@ -1059,15 +1305,17 @@ fn demand3() {
         (&[3, 2, 3], &pairs[5..6]),
     ];
     for (lengths, messages) in layouts {
-        let (mut strands, mut outside, mut lost) = (0, 0, 0);
+        let (mut strands, mut told, mut outside, mut lost) = (0, 0, 0, 0);
         for demand in messages.iter().map(|message| demand_of(lengths, message)) {
             strands += demand.strands;
+            told += demand.told;
             outside += demand.outside;
             lost += demand.lost;
         }
         let (lengths, count) = (u16::shown(lengths), messages.len());
         println!(
-            "demand 3: lengths {lengths}, {count} messages, {strands} strands hold; \
+            "demand 3: lengths {lengths}, {count} messages, {strands} strands hold, \
+             {told} of them with their lines; \
              {outside} outside by an unknown letter agree, {lost} of them with a segment lost"
         );
     }
@@ -1164,6 +1412,8 @@ fn samples() {
     sample_labels();
     sample_letters();
     sample_unknown();
+    lines::told();
+    lines::refused();
     println!("samples hold");
 }
 
@@ -1280,7 +1530,9 @@ fn sample_labels() {
 }
 
 fn usage() -> ! {
-    eprintln!("usage: outside SEED COUNT | small SEED COUNT | demand3 | samples");
+    eprintln!(
+        "usage: outside SEED COUNT | small SEED COUNT | programs SEED COUNT | demand3 | samples"
+    );
     exit(2);
 }
 
@@ -1296,6 +1548,7 @@ fn main() {
         ["demand3"] => demand3(),
         ["samples"] => samples(),
         ["small", seed, count] => compare(number(seed), number(count), true),
+        ["programs", seed, count] => programs::agree(number(seed), number(count)),
         [seed, count] => compare(number(seed), number(count), false),
         _ => usage(),
     }

@@ -196,7 +196,7 @@ fn check(message: &[u8]) -> u8 {
 }
 
 /// A segment as written; f is the symbol before it, none for the first segment.
-fn written(message: &[u8], f: Option<u8>, t: usize) -> Vec<u8> {
+pub fn written(message: &[u8], f: Option<u8>, t: usize) -> Vec<u8> {
     let mut segment = Vec::new();
     if let Some(f) = f {
         let m = sep(f, message[0], message[1]);
@@ -611,17 +611,58 @@ pub fn read(
     Ok(counts)
 }
 
-/// The start and the length of one segment's piece; segments count from 1.
-pub fn piece(
-    segments: &Result<Vec<Segment>, Refused>,
-    segment: u32,
-) -> Result<(usize, usize), Refused> {
+/// One of the segments, which count from 1.
+fn numbered(segments: &Result<Vec<Segment>, Refused>, segment: u32) -> Result<&Segment, Refused> {
     let segments = segments.as_ref().map_err(|refused| *refused)?;
     if segment < 1 || segment as usize > segments.len() {
         return refuse(9);
     }
-    let found = &segments[segment as usize - 1];
+    Ok(&segments[segment as usize - 1])
+}
+
+/// The start and the length of one segment's piece.
+pub fn piece(
+    segments: &Result<Vec<Segment>, Refused>,
+    segment: u32,
+) -> Result<(usize, usize), Refused> {
+    let found = numbered(segments, segment)?;
     Ok((found.start, found.end - found.start))
+}
+
+/// The verdict on one segment.
+pub fn verdict(segments: &Result<Vec<Segment>, Refused>, segment: u32) -> Result<Verdict, Refused> {
+    Ok(numbered(segments, segment)?.verdict)
+}
+
+/// The words of a line for a verdict.
+pub fn words(verdict: Verdict) -> String {
+    let named = |name: &str, place: usize, letter: u8| format!("{name} {place} {}", letter as char);
+    match verdict {
+        Verdict::Read(Edit::None) => String::from("clean"),
+        Verdict::Unknown => String::from("unknown"),
+        Verdict::Read(Edit::Sub { place, letter }) => named("sub", place, letter),
+        Verdict::Read(Edit::Del { place, letter }) => named("del", place, letter),
+        Verdict::Read(Edit::Ins { place, letter }) => named("ins", place, letter),
+        Verdict::Lost { step } => format!("lost {step}"),
+        Verdict::NoStart => String::from("lost start"),
+    }
+}
+
+/// A line for each segment: its number and the words for its verdict.
+pub fn lines(segments: &[Segment]) -> String {
+    let line = |(i, segment): (usize, &Segment)| format!("{} {}\n", i + 1, words(segment.verdict));
+    segments.iter().enumerate().map(line).collect()
+}
+
+/// Writes the lines of the segments; hands back their number of bytes.
+pub fn report(segments: &Result<Vec<Segment>, Refused>, out: &mut [u8]) -> Result<usize, Refused> {
+    let segments = segments.as_ref().map_err(|refused| *refused)?;
+    let lines = lines(segments);
+    let Some(front) = out.get_mut(..lines.len()) else {
+        return refuse(5);
+    };
+    front.copy_from_slice(lines.as_bytes());
+    Ok(lines.len())
 }
 
 /// Whether all lengths are equal; one alone is.

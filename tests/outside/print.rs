@@ -2,27 +2,15 @@
 
 #[allow(dead_code)]
 mod oracle;
+#[allow(dead_code)]
 mod program;
 
-use oracle::{Edit, Refused, Verdict};
-use program::{hex, label_of, printed, reading, two_lines, writing};
+use oracle::Refused;
+use program::{hex, label_of, printed, reading, reporting, two_lines, writing};
 use std::ffi::OsString;
 use std::io::{Read, Write};
 use std::os::unix::ffi::OsStringExt;
 use std::process::exit;
-
-fn verdict_text(verdict: Verdict) -> String {
-    let named = |name: &str, place: usize, letter: u8| format!("{name} {place} {}", letter as char);
-    match verdict {
-        Verdict::Read(Edit::None) => String::from("clean"),
-        Verdict::Unknown => String::from("unknown"),
-        Verdict::Read(Edit::Sub { place, letter }) => named("sub", place, letter),
-        Verdict::Read(Edit::Del { place, letter }) => named("del", place, letter),
-        Verdict::Read(Edit::Ins { place, letter }) => named("ins", place, letter),
-        Verdict::Lost { step } => format!("lost step {step}"),
-        Verdict::NoStart => String::from("lost start"),
-    }
-}
 
 /// The lines of the reading program, then the layout, the sheet and the verdicts.
 fn reading_told(label: &[u8], strand: &[u8]) -> Result<String, Refused> {
@@ -39,7 +27,7 @@ fn reading_told(label: &[u8], strand: &[u8]) -> Result<String, Refused> {
             i + 1,
             segment.start,
             piece.len(),
-            verdict_text(segment.verdict),
+            oracle::words(segment.verdict),
             if segment.scanned { " scanned" } else { "" },
             piece.escape_ascii()
         );
@@ -56,7 +44,7 @@ fn input() -> Vec<u8> {
 }
 
 fn usage() -> ! {
-    eprintln!("usage: print [-v | write] LABEL [STRAND | MESSAGE] | print [-v | write] -");
+    eprintln!("usage: print [-v | report | write] LABEL [STRAND | MESSAGE] | print [-v | report | write] -");
     exit(2);
 }
 
@@ -70,6 +58,7 @@ fn main() {
     let arguments: Vec<&[u8]> = arguments.iter().map(Vec::as_slice).collect();
     let (answer, rest): (Answer, &[&[u8]]) = match &arguments[..] {
         [b"-v", rest @ ..] => (reading_told, rest),
+        [b"report", rest @ ..] => (reporting, rest),
         [b"write", rest @ ..] => (writing, rest),
         rest => (reading, rest),
     };

@@ -1,6 +1,11 @@
-//! What the programs print, by the oracle.
+//! What the programs print: by the oracle, and in a run.
 
 use crate::oracle::{self, Refused};
+use std::io::Write;
+use std::process::{Command, Stdio};
+
+pub const READER: &str = "target/bin/read_strand";
+pub const REPORTER: &str = "target/bin/report_strand";
 
 /// The first two lines of an input; a missing one is empty.
 pub fn two_lines(input: &[u8]) -> (&[u8], &[u8]) {
@@ -48,6 +53,12 @@ pub fn reading(label: &[u8], strand: &[u8]) -> Result<String, Refused> {
     ))
 }
 
+/// The lines of the reporting program, one for each segment.
+pub fn reporting(label: &[u8], strand: &[u8]) -> Result<String, Refused> {
+    let (lengths, b) = label_of(label)?;
+    Ok(oracle::lines(&oracle::segments(&lengths, b, strand)?))
+}
+
 /// The line of the writing program; a message that is no hexadecimal has not B bytes.
 pub fn writing(label: &[u8], message: &[u8]) -> Result<String, Refused> {
     let (lengths, b) = label_of(label)?;
@@ -62,4 +73,25 @@ pub fn writing(label: &[u8], message: &[u8]) -> Result<String, Refused> {
 /// What a program prints for its answer.
 pub fn printed(answer: Result<String, Refused>) -> String {
     answer.unwrap_or_else(|refused| format!("refused {}\n", refused.number))
+}
+
+/// What a program prints for an input when it is run, or how it ended.
+pub fn run(program: &str, input: &[u8]) -> String {
+    ran(program, input).unwrap_or_else(|error| error.to_string())
+}
+
+fn ran(program: &str, input: &[u8]) -> std::io::Result<String> {
+    let mut child = Command::new(program)
+        .stdin(Stdio::piped())
+        .stdout(Stdio::piped())
+        .spawn()?;
+    if let Some(mut stdin) = child.stdin.take() {
+        // The program may end before it has read all.
+        let _ = stdin.write_all(input);
+    }
+    let output = child.wait_with_output()?;
+    if !output.status.success() {
+        return Ok(format!("ended with {}", output.status));
+    }
+    Ok(String::from_utf8_lossy(&output.stdout).into_owned())
 }

@@ -1,4 +1,4 @@
-//! Answers each line of the vector files by the oracle, and by the library or the reading program, and compares.
+//! Answers each line of the vector files by the oracle, by the library and by the programs, and compares.
 
 #[allow(dead_code)]
 #[path = "../outside/ffi.rs"]
@@ -9,15 +9,18 @@ mod oracle;
 #[allow(dead_code)]
 #[path = "../outside/program.rs"]
 mod program;
+#[path = "../outside/verdicts.rs"]
+mod verdicts;
 
-use oracle::{Edit, Refused, Verdict};
-use program::hex;
-use std::io::Write;
-use std::process::{exit, Command, Stdio};
+use oracle::{Refused, Verdict};
+use program::{hex, READER, REPORTER};
+use std::process::exit;
 
-const READER: &str = "target/bin/read_strand";
 /// Stands in lent buffers before a call.
 const BEFORE: u8 = 0xA5;
+
+/// The bytes of a buffer that is long enough for the lines of every strand.
+const MOST_REPORT: usize = 960;
 
 /// The fields of a question behind its kind.
 struct Fields<'a> {
@@ -86,7 +89,10 @@ enum Question {
         letters: Vec<u8>,
         segment: u32,
     },
-    Program {
+    Reading {
+        input: Vec<u8>,
+    },
+    Reporting {
         input: Vec<u8>,
     },
 }
@@ -123,7 +129,10 @@ fn question_of(text: &str) -> Option<Question> {
             letters: fields.letters()?,
             segment: fields.number()?,
         },
-        "prog" => Question::Program {
+        "prog" => Question::Reading {
+            input: fields.letters()?,
+        },
+        "lines" => Question::Reporting {
             input: fields.letters()?,
         },
         _ => return None,
@@ -157,17 +166,9 @@ fn refusal_text(number: u32, place: usize) -> String {
     }
 }
 
+/// A verdict in the words of a line, with no space.
 fn verdict_text(verdict: Verdict) -> String {
-    let named = |name: &str, place: usize, letter: u8| format!("{name}_{place}_{}", letter as char);
-    match verdict {
-        Verdict::Read(Edit::None) => String::from("clean"),
-        Verdict::Unknown => String::from("unknown"),
-        Verdict::Read(Edit::Sub { place, letter }) => named("sub", place, letter),
-        Verdict::Read(Edit::Del { place, letter }) => named("del", place, letter),
-        Verdict::Read(Edit::Ins { place, letter }) => named("ins", place, letter),
-        Verdict::Lost { step } => format!("lost_{step}"),
-        Verdict::NoStart => String::from("lost_start"),
-    }
+    oracle::words(verdict).replace(' ', "_")
 }
 
 fn read_text(message: &[u8], sheet: &[u8], counts: [u32; 3], pieces: &[String]) -> String {
@@ -223,9 +224,13 @@ fn by_oracle(question: &Question) -> Result<String, Refused> {
             let (start, length) = oracle::piece(&segments, *segment)?;
             Ok(letters_text(&letters[start..start + length]))
         }
-        Question::Program { input } => {
+        Question::Reading { input } => {
             let (label, strand) = program::two_lines(input);
             Ok(program::printed(program::reading(label, strand)))
+        }
+        Question::Reporting { input } => {
+            let (label, strand) = program::two_lines(input);
+            Ok(program::printed(program::reporting(label, strand)))
         }
     }
 }
@@ -295,10 +300,11 @@ fn by_library(question: &Question) -> Result<String, String> {
             let count = lengths.len().div_ceil(4);
             let sheet = answered(&sheet, got.refusal, got.place, count)?;
             let mut pieces = Vec::new();
-            for segment in 1..=lengths.len() {
-                let got = ffi::piece(lengths, *b, letters, segment as u32);
+            for (segment, verdict) in (1..).zip(told(lengths, *b, letters)?) {
+                let got = ffi::piece(lengths, *b, letters, segment);
                 taken(got.refusal, got.place)?;
-                pieces.push(format!("{}-{}", got.start, got.start + got.length));
+                let (end, verdict) = (got.start + got.length, verdict_text(verdict));
+                pieces.push(format!("{}-{end}:{verdict}", got.start));
             }
             let counts = [got.clean, got.corrected, got.lost];
             Ok(read_text(message, sheet, counts, &pieces))
@@ -314,33 +320,34 @@ fn by_library(question: &Question) -> Result<String, String> {
             let piece = letters.get(got.start..got.start + got.length);
             Ok(letters_text(piece.ok_or("a piece outside the strand")?))
         }
-        Question::Program { input } => by_program(input).map_err(|error| error.to_string()),
+        Question::Reading { input } => Ok(program::run(READER, input)),
+        Question::Reporting { input } => Ok(program::run(REPORTER, input)),
     }
 }
 
-fn by_program(input: &[u8]) -> std::io::Result<String> {
-    let mut child = Command::new(READER)
-        .stdin(Stdio::piped())
-        .stdout(Stdio::piped())
-        .spawn()?;
-    if let Some(mut stdin) = child.stdin.take() {
-        // The program may end before it has read all.
-        let _ = stdin.write_all(input);
+/// The lines of the library, or its refusal, as the program prints them.
+fn lines_text(lengths: &[u16], b: u32, letters: &[u8]) -> Result<String, String> {
+    let mut out = vec![BEFORE; MOST_REPORT];
+    let got = ffi::report(lengths, b, letters, &mut out);
+    if got.refusal != 0 {
+        front(&out, 0)?;
+        return Ok(format!("refused {}\n", got.refusal));
     }
-    let output = child.wait_with_output()?;
-    if !output.status.success() {
-        return Ok(format!("ended with {}", output.status));
-    }
-    Ok(String::from_utf8_lossy(&output.stdout).into_owned())
+    let lines = answered(&out, got.refusal, got.place, got.length)?;
+    Ok(String::from_utf8_lossy(lines).into_owned())
 }
 
-/// The answer without the verdicts of the segments, which no call of the library tells.
-fn without_verdicts(answer: &str) -> String {
-    let words: Vec<&str> = answer
-        .split(' ')
-        .map(|word| word.split(':').next().unwrap_or(word))
-        .collect();
-    words.join(" ")
+/// The verdicts of the library's lines, if its verdicts in numbers are the same.
+fn told(lengths: &[u16], b: u32, letters: &[u8]) -> Result<Vec<Verdict>, String> {
+    let lines = lines_text(lengths, b, letters)?;
+    let verdicts = verdicts::verdicts_of(lines.as_bytes()).ok_or(format!("lines {lines:?}"))?;
+    for (segment, &verdict) in (1..).zip(&verdicts) {
+        let got = ffi::verdict(lengths, b, letters, segment);
+        if got != verdicts::said_of(verdict) {
+            return Err(format!("line {verdict:?} and verdict {got:?}"));
+        }
+    }
+    Ok(verdicts)
 }
 
 fn same(side: &str, line: &str, wanted: &str, got: &str) -> bool {
@@ -350,7 +357,17 @@ fn same(side: &str, line: &str, wanted: &str, got: &str) -> bool {
     wanted == got
 }
 
-/// Whether both sides give the answer of a line.
+/// Whether the call gives the lines that the program prints for an input; no call takes one whose label is refused.
+fn call_holds(question: &str, input: &[u8], printed: &str) -> bool {
+    let (label, strand) = program::two_lines(input);
+    let Ok((lengths, b)) = program::label_of(label) else {
+        return true;
+    };
+    let lines = lines_text(&lengths, b, strand).unwrap_or_else(|fault| fault);
+    same("library", question, printed, &lines)
+}
+
+/// Whether all sides give the answer of a line.
 fn line_holds(line: &str) -> bool {
     let Some((question, answer)) = line.split_once('\t') else {
         println!("no answer: {line}");
@@ -363,14 +380,15 @@ fn line_holds(line: &str) -> bool {
     let oracle =
         by_oracle(&asked).unwrap_or_else(|refused| refusal_text(refused.number, refused.place));
     let library = by_library(&asked).unwrap_or_else(|refused| refused);
-    match asked {
-        Question::Program { .. } => {
-            let printed = answer.replace('|', "\n") + "\n";
+    let printed = answer.replace('|', "\n") + "\n";
+    match &asked {
+        Question::Reading { .. } => {
             same("oracle", question, &printed, &oracle) & same(READER, question, &printed, &library)
         }
-        Question::Read { .. } => {
-            same("oracle", question, answer, &oracle)
-                & same("library", question, &without_verdicts(answer), &library)
+        Question::Reporting { input } => {
+            same("oracle", question, &printed, &oracle)
+                & same(REPORTER, question, &printed, &library)
+                & call_holds(question, input, &printed)
         }
         _ => {
             same("oracle", question, answer, &oracle) & same("library", question, answer, &library)

@@ -1,4 +1,4 @@
-// What both programs share: standard input and output, the label's line, the line for a refusal, and what is said to a wrong use.
+// What the programs share: standard input and output, the label's line, the line for a refusal, and what is said to a wrong use.
 use code::Labelled;
 use code::Refusal;
 use libc::STDERR_FILENO;

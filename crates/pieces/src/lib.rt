@@ -21,8 +21,17 @@ fn span_of(lengths: &[u16], b: u32, letters: &[u8], unknown: bool, i: usize) -> 
     requires { ⌜ Taken (order (now lengths) b) × (i < length (now lengths)) ⌝ }
     ensures { λ r. ⌜ r ≡ locatedAs (outcomes (now (lengths .entry)) (now (letters .entry))) i ⌝ }
 {
-    let found = read_order(lengths, b, letters, unknown);
-    let ends = found.ends;
+    let mut verdicts = [0u32; 64];
+    let mut ends = [0u16; 64];
+    let l = lengths.len();
+    read_order(
+        lengths,
+        b,
+        letters,
+        unknown,
+        &mut verdicts[..l],
+        &mut ends[..l],
+    );
     Located::At(start_of(&ends, i), ends[i] as usize)
 }
 

@@ -7,7 +7,7 @@
 --   front-below                                    symbols at the front of an array
 --   over-front                                     what a call leaves at the front of a buffer
 --   length-ends, messages-length, numbers-length,  how much a reading gives
---   ends-length, marks-length
+--   marks-length
 use mathlib.Core.Path.{_≡_, refl, sym, ap, subst, _∙_}
 use mathlib.Core.Bool.{false}
 use mathlib.Core.List.{List, [], _∷_, _++_, map}
@@ -86,9 +86,6 @@ module _ (o : Order) (t : Taken o) where
 
     pub numbers-length : length (map verdictNumber (verdictsOf os)) ≡ length (o .lengths)
     numbers-length = simp length-map outcomes-length
-
-    pub ends-length : length (endsFrom 0 os) ≡ length (o .lengths)
-    ends-length = length-ends 0 os ∙ outcomes-length
 
     pub marks-length : length (marksOf (verdictsOf os)) ≡ length (o .lengths)
     marks-length = simp length-map outcomes-length

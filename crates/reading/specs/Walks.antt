@@ -2,12 +2,12 @@
 --   endsFrom   where the pieces of outcomes end
 --   Lent       the buffers that a walk is lent
 --   Walked     what it leaves in them
---   FoundIn    what it finds of the segments, in arrays
+--   Found      what is said of the segments, and where they end
 --   startIn    where a piece starts, by the ends
 use mathlib.Core.Path.{_≡_}
 use mathlib.Core.List.{List, [], _∷_, map}
 use Prim.Native.Nat.{ℕ, zero, suc, _+_}
-use lib.ListN.{length, getD, take}
+use lib.ListN.{length, getD}
 use Rattle.code.specs.Layout.{sum}
 use Rattle.code.specs.Strands.{Outcome, outcomes, messagesOf, verdictsOf}
 use Rattle.code.specs.Verdicts.{verdictNumber}
@@ -27,10 +27,10 @@ pub record Walked (ks letters symbols verdicts ends : List ℕ) : Type 0 where
   pub numbers : verdicts ≡ map verdictNumber (verdictsOf (outcomes ks letters))
   pub places : ends ≡ endsFrom 0 (outcomes ks letters)
 
--- the numbers of the verdicts of the segments of letters, and where their pieces end, at the fronts of two arrays
-pub record FoundIn (ks letters verdicts ends : List ℕ) : Type 0 where
-  pub numbers : take (length ks) verdicts ≡ map verdictNumber (verdictsOf (outcomes ks letters))
-  pub places : take (length ks) ends ≡ endsFrom 0 (outcomes ks letters)
+-- the numbers of the verdicts of the segments of letters, and where their pieces end
+pub record Found (ks letters verdicts ends : List ℕ) : Type 0 where
+  pub numbers : verdicts ≡ map verdictNumber (verdictsOf (outcomes ks letters))
+  pub places : ends ≡ endsFrom 0 (outcomes ks letters)
 
 -- where the piece behind the first i starts: where the one before it ends
 abbrev pub startIn : List ℕ → ℕ → ℕ

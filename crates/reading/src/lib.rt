@@ -16,7 +16,7 @@ ghost use Rattle.code.specs.Layout.{Lengths};
 ghost use Rattle.code.specs.Order.{order, Taken};
 ghost use Rattle.code.specs.Strands.{told};
 ghost use Rattle.code.specs.Verdicts.{verdictNumber, verdictOf};
-ghost use Rattle.reading.specs.Walks.{Lent, Walked, startIn, FoundIn};
+ghost use Rattle.reading.specs.Walks.{Lent, Walked, Found, startIn};
 
 // The number of what is said of a segment by its piece: no edit becomes unknown where an N is among its letters. Pieces of a strand without N are
 // not looked at.
@@ -111,32 +111,22 @@ pub fn read_layout(
     read_segments(lengths, letters, letters, false, symbols, verdicts, ends)
 }
 
-// What a walk finds of the segments of an order, in front of zeros: the numbers of their verdicts, and where each ends.
-pub struct Found {
-    pub verdicts: [u32; 64],
-    pub ends: [u16; 64],
-}
-
-// Reads the segments of an order for what is said of them and where they stand; their messages are left.
-pub fn read_order(lengths: &[u16], b: u32, letters: &[u8], unknown: bool) -> Found
+// Reads the segments of an order for the numbers of their verdicts and where each ends; their messages are left.
+pub fn read_order(
+    lengths: &[u16],
+    b: u32,
+    letters: &[u8],
+    unknown: bool,
+    verdicts: &mut [u32],
+    ends: &mut [u16],
+)
     requires { ⌜ (length (now letters) ≤ mostLetters) × (unknown ≡ hasUnknown (now letters)) ⌝ }
-    requires { ⌜ Taken (order (now lengths) b) ⌝ }
-    ensures { λ r. ⌜ FoundIn (now (lengths .entry)) (now (letters .entry)) (r .verdicts) (r .ends) ⌝ }
+    requires { ⌜ Taken (order (now lengths) b) × (length (now verdicts) ≡ length (now lengths)) × (length (now ends) ≡ length (now lengths)) ⌝ }
+    ensures { λ _. ⌜ Found (now (lengths .entry)) (now (letters .entry)) (now (verdicts .exit)) (now (ends .exit)) ⌝ }
 {
     let mut symbols = [0u8; 512];
-    let mut verdicts = [0u32; 64];
-    let mut ends = [0u16; 64];
     let n = 4 * b as usize;
-    let l = lengths.len();
-    read_layout(
-        lengths,
-        letters,
-        unknown,
-        &mut symbols[..n],
-        &mut verdicts[..l],
-        &mut ends[..l],
-    );
-    Found { verdicts, ends }
+    read_layout(lengths, letters, unknown, &mut symbols[..n], verdicts, ends)
 }
 
 // Where the piece behind the first i starts: where the one before it ends.

@@ -1,30 +1,28 @@
 -- What is reported from the numbers and ends that a walk leaves is what is reported of the outcomes.
+--   Fronts, in-front         what a walk found stands at the fronts of two arrays
 --   Reports, found-reports   the verdicts of all segments
 --   Stands, found-at         the verdict of one
-use mathlib.Core.Path.{_≡_, refl, sym, ap, subst, _∙_}
+use mathlib.Core.Path.{_≡_, refl, sym, ap, _∙_}
 use mathlib.Core.Bool.{false}
 use mathlib.Core.List.{List, [], _∷_, _++_, map}
-use mathlib.Core.Option.{Option, some, none}
-use Prim.Native.Nat.{ℕ, zero, suc, _+_, _-_, _*_, _≤_, _<_}
+use Prim.Native.Nat.{ℕ, zero, suc, _+_, _-_, _≤_, _<_}
 use native.Mathlib.Omega.{arith}
 use lib.ListN.{length, getD, take, drop, length-append, length-map, length-take, length-drop}
 use lib.Seq.{length-take-le, take-at, drop-at, drop-drop, getD-take}
 use Rattle.code.specs.Symbols.{Below, letterKinds, asSymbols}
 use Rattle.code.specs.Layout.{Lengths, joined}
 use Rattle.code.specs.Bounds.{longest}
-use Rattle.code.specs.Limits.{mostSegments}
-use Rattle.code.specs.Verdicts.{verdictNumber, verdictOf, Numbered}
+use Rattle.code.specs.Verdicts.{verdictNumber, verdictOf}
 use Rattle.code.specs.laws.Verdicts.{verdict-back, AllNumbered, outcomes-numbered}
 use Rattle.code.specs.Strands.{Outcome, outcomes, verdictsOf}
-use Rattle.code.specs.laws.Strands.{length-reading, joined-pieces}
+use Rattle.code.specs.laws.Strands.{length-reading}
 use Rattle.code.specs.ReadCall.{piecesOf}
-use Rattle.code.specs.declared.Edit.the-variants.{None, Sub, Del, Ins}
 use Rattle.code.specs.declared.Verdict.{Verdict}
-use Rattle.code.specs.declared.Verdict.the-variants.{Read, Unknown, Lost, NoStart}
-use Rattle.reading.specs.Walks.{endsFrom, FoundIn, startIn}
-use Rattle.report.specs.Report.{inLetters, reported, linesFrom, linesOf}
-use Rattle.report.specs.ReportCall.{reportedAt, mostReport}
-use Rattle.report.specs.Truth.{Site, Lettered, anew, Says, True-from}
+use Rattle.code.specs.declared.Verdict.the-variants.{NoStart}
+use Rattle.reading.specs.Walks.{endsFrom, Found, startIn}
+use Rattle.reading.proofs.Fronts.{length-ends}
+use Rattle.reading.proofs.Spans.{ends-count, all-letters}
+use Rattle.report.specs.Report.{inLetters, reported}
 use Rattle.report.specs.Walked.{Inside, part, reportedFrom, Reportable}
 use Rattle.report.specs.laws.Named.{AllName, outcomes-name}
 
@@ -83,19 +81,25 @@ stands-at q (v ∷ vs) (e ∷ es) letters (suc i) r h = later i (stands-at e vs 
 
 -- What a walk found
 
-module _ (ks letters verdicts ends : List ℕ) (lengths : Lengths longest ks) (legible : Below letterKinds letters) (f : FoundIn ks letters verdicts ends) where
+-- it stands at the fronts of two arrays
+pub record Fronts (ks letters verdicts ends : List ℕ) : Type 0 where
+  pub numbers : take (length ks) verdicts ≡ map verdictNumber (verdictsOf (outcomes ks letters))
+  pub places : take (length ks) ends ≡ endsFrom 0 (outcomes ks letters)
+
+pub in-front : (ks letters verdicts ends r q : List ℕ) → Found ks letters verdicts ends → Fronts ks letters (verdicts ++ r) (ends ++ q)
+in-front ks letters verdicts ends r q f =
+    let m : length (map verdictNumber (verdictsOf (outcomes ks letters))) ≡ length ks = simp length-map (length-reading false 0 ks (asSymbols letters) letters) in
+    record {
+      numbers = take-at verdicts r (length ks) (ap length (f .numbers) ∙ m) ∙ f .numbers;
+      places = take-at ends q (length ks) (ends-count ks letters ends (f .places)) ∙ f .places;
+    }
+
+module _ (ks letters verdicts ends : List ℕ) (lengths : Lengths longest ks) (legible : Below letterKinds letters) (f : Fronts ks letters verdicts ends) where
   abbrev os : List Outcome
   os = outcomes ks letters
 
   numbered : AllNumbered (verdictsOf os)
   numbered = outcomes-numbered ks letters lengths
-
-  all-letters : 0 < length ks → joined (piecesOf os) ≡ letters
-  all-letters h = go ks h
-    where
-      go : (qs : List ℕ) → 0 < length qs → joined (piecesOf (outcomes qs letters)) ≡ letters
-      go [] l = absurd (omega arith)
-      go (k ∷ qs) l = joined-pieces false 0 k qs (asSymbols letters) letters
 
   -- what is reported from what a walk found is what is reported of the outcomes
   pub record Reports : Type 0 where
@@ -105,15 +109,18 @@ module _ (ks letters verdicts ends : List ℕ) (lengths : Lengths longest ks) (l
   pub found-reports : 0 < length ks → Reports
   found-reports h =
       record {
-        are = rw (f .numbers, f .places) (walk-reports letters 0 os (all-letters h) numbered);
-        reportable = rw (f .numbers, f .places) (walk-reportable letters 0 os (omega arith) (all-letters h) numbered (outcomes-name ks letters lengths legible));
+        are = rw (f .numbers, f .places) (walk-reports letters 0 os (all-letters ks letters h) numbered);
+        reportable = rw (f .numbers, f .places) (walk-reportable letters 0 os (omega arith) (all-letters ks letters h) numbered (outcomes-name ks letters lengths legible));
       }
 
-  -- the array has a number for each segment
+  -- the arrays have a number and an end for each segment
   pub numbers-long : length ks ≤ length verdicts
   numbers-long =
       let n : length (map verdictNumber (verdictsOf os)) ≡ length os = simp length-map in
       omega (arith, length-take (length ks) verdicts, ap length (f .numbers), n, length-reading false 0 ks (asSymbols letters) letters)
+
+  pub places-long : length ks ≤ length ends
+  places-long = omega (arith, length-take (length ks) ends, ap length (f .places), length-ends 0 os, length-reading false 0 ks (asSymbols letters) letters)
 
   pub found-at : (i : ℕ) → i < length ks → Stands letters (map reported os) i (getD verdicts i 0) (startIn ends i) (getD ends i 0)
   found-at i h =

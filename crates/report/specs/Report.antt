@@ -1,6 +1,7 @@
--- The lines of a reading: what happened to each segment (SPECIFICATION.md, section 10).
+-- The lines of a reading: what happened to each segment (SPECIFICATION.md, section 7).
 --   inLetters     a verdict that names letters
 --   reported      what is reported of an outcome
+--   space         the space in ASCII
 --   edited        the words of an edit
 --   words         the words of a verdict
 --   segmentLine   the line of a segment

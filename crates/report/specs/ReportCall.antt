@@ -1,13 +1,15 @@
--- What the report calls test, answer and write (SPECIFICATION.md, section 10).
---   reportOf      the lines of letters, for an order
---   strandTest    the tests of a received strand
---   reportTest    the tests of a report
---   reportAs      a report's answer and its buffer, from its lines
---   reportCall    the answer of a report, and the lent buffer afterwards
---   verdictCall   what is reported of one segment
---   mostLine      the most bytes of a line
---   mostReport    the most bytes of a report
---   Refuses-alike  a report refuses as a reading does
+-- What the report calls test, answer and write (SPECIFICATION.md, section 7, tables 5 and 6).
+--   reportOf        the lines of letters, for an order
+--   strandTest      the tests of a received strand
+--   shortFor        test 5 of a report
+--   reportTest      the tests of a report
+--   reportAs        a report's answer and its buffer, from its lines
+--   reportCall      the answer of a report, and the lent buffer afterwards
+--   reportedAt      what is reported of one segment
+--   verdictCall     the same, or the refusal
+--   mostLine        the most bytes of a line
+--   mostReport      the most bytes of a report
+--   Refuses-alike   a report refuses as a reading does
 use mathlib.Core.Path.{_≡_}
 use mathlib.Core.Bool.{Bool}
 use mathlib.Core.List.{List, map}

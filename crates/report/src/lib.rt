@@ -34,10 +34,17 @@ fn write_lines(lengths: &[u16], b: u32, letters: &[u8], unknown: bool, out: &mut
       let lines = linesOf (outcomes (now (lengths .entry)) (now (letters .entry))) in
           ⌜ (r, now (out .exit)) ≡ reportAs (refuse (shortFor lines (length (now (out .entry)))) ShortBuffer Fine) lines (now (out .entry)) ⌝ }
 {
-    let found = read_order(lengths, b, letters, unknown);
-    let verdicts = found.verdicts;
-    let ends = found.ends;
+    let mut verdicts = [0u32; 64];
+    let mut ends = [0u16; 64];
     let l = lengths.len();
+    read_order(
+        lengths,
+        b,
+        letters,
+        unknown,
+        &mut verdicts[..l],
+        &mut ends[..l],
+    );
     let mut lines = [0u8; 960];
     let end = put_lines(&mut lines, &verdicts[..l], &ends[..l], letters);
     if out.len() < end {
@@ -53,9 +60,17 @@ fn verdict_at(lengths: &[u16], b: u32, letters: &[u8], unknown: bool, i: usize) 
     requires { ⌜ Taken (order (now lengths) b) × (i < length (now lengths)) ⌝ }
     ensures { λ r. ⌜ r ≡ reportedAt (outcomes (now (lengths .entry)) (now (letters .entry))) i ⌝ }
 {
-    let found = read_order(lengths, b, letters, unknown);
-    let verdicts = found.verdicts;
-    let ends = found.ends;
+    let mut verdicts = [0u32; 64];
+    let mut ends = [0u16; 64];
+    let l = lengths.len();
+    read_order(
+        lengths,
+        b,
+        letters,
+        unknown,
+        &mut verdicts[..l],
+        &mut ends[..l],
+    );
     let from = start_of(&ends, i);
     let to = ends[i] as usize;
     in_letters(verdicts[i], &letters[from..to])

@@ -1,7 +1,7 @@
 -- What is shown of a report, by its answer.
 --   lines-shown     the lines
 --   refused-shown   a refusal
-use mathlib.Core.Path.{_≡_, refl, sym, ap, _∙_}
+use mathlib.Core.Path.{_≡_, sym, ap, _∙_}
 use mathlib.Core.List.{List}
 use Prim.Native.Nat.{ℕ, _≤_}
 use native.Mathlib.Omega.{arith}

@@ -21,7 +21,7 @@ use Rattle.code.specs.Refusals.{refuse}
 use Rattle.code.specs.Order.{Order}
 use Rattle.code.specs.laws.Order.{order-fine}
 use Rattle.code.specs.Sheet.{sheetBytes}
-use Rattle.code.specs.ReadCall.{foreignTest, receivedTest, readTest, shortBuffers}
+use Rattle.code.specs.ReadCall.{foreignTest, receivedTest, readTest}
 use Rattle.code.specs.laws.ReadCall.{received-fine, received-then, received-refused}
 use Rattle.report.specs.ReportCall.{reportOf, strandTest, shortFor, reportTest, mostReport, Refuses-alike}
 use Rattle.report.specs.laws.Named.{lines-room}

@@ -3,7 +3,7 @@
 --   loses-lost   a step whose own words call a segment lost is named
 --   first-lost   it is the first step that does
 use mathlib.Core.Path.{_≡_, refl, sym, ap, subst, _∙_}
-use mathlib.Core.Bool.{Bool, true, false, cond, true≢false}
+use mathlib.Core.Bool.{Bool, true, false, cond}
 use mathlib.Core.List.{List, [], _∷_}
 use mathlib.Core.Logic.{_⊎_, inl, inr}
 use mathlib.Core.Option.{Option, some, none}
@@ -17,17 +17,16 @@ use Rattle.code.specs.laws.Letters.{as-below, as-take, as-same, asSymbol, as-fi
 use Rattle.code.specs.laws.Below.{below-take}
 use Rattle.code.specs.Layers.{Word, layer, width, number}
 use Rattle.code.specs.Repair.{repair}
-use Rattle.code.specs.laws.Repair.{Found, repair-none, repair-nothing}
-use Rattle.code.specs.Segment.{segment, lastOf, dataAt, size}
+use Rattle.code.specs.laws.Repair.{repair-none, repair-nothing}
+use Rattle.code.specs.Segment.{lastOf, dataAt, size}
 use Rattle.code.specs.laws.Segment.{segment-below}
 use Rattle.code.specs.Edits.{applied, Fits, judged}
 use Rattle.code.specs.laws.Judged.{judged-named, judged-none, judged-fits}
 use Rattle.code.specs.Reading.{Shift, level, early, late, moved, firstShift, whole, separatorAt, afterSeparator, checkAgrees, MessageResult, message, bothLayers, repaired, linkOf, taken, messageAt, messageWithout, readWhole, readHit, readMessage, clean, settled, behind, around, endOf, SegmentResult, withEdit, withEnd, withMessage, readSegment}
 use Rattle.code.specs.laws.MessageBelow.{read-message-below}
-use Rattle.code.specs.declared.Link.{Link}
 use Rattle.code.specs.declared.Edit.{Edit}
 use Rattle.code.specs.declared.Edit.the-variants.{None, Sub, Del, Ins}
-use Rattle.report.specs.Truth.{Site, symbolsAt, dataOf, Gives, anew, TurnsInto, Lost-3, Lost-6, NoWord, Lost-7, Lost-8, Lost-9, Loses, in-3, in-6, in-7, in-8, in-9, First}
+use Rattle.report.specs.Truth.{Site, symbolsAt, dataOf, Gives, anew, TurnsInto, NoWord, Lost-7, Lost-8, Lost-9, Loses, in-3, in-6, in-7, in-8, in-9, First}
 
 -- the edits of step 9, and those that name letters
 

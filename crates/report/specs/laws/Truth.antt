@@ -1,13 +1,13 @@
 -- Every line is true: the proof of Truth.antt.
 --   true-lines   the theorem
 use mathlib.Core.Path.{_≡_, refl, sym, ap, subst, _∙_}
-use mathlib.Core.Bool.{Bool, true, false, cond, true≢false}
+use mathlib.Core.Bool.{Bool, true, false, cond}
 use mathlib.Core.List.{List, [], _∷_, _++_, map, cons≢nil}
 use mathlib.Core.Option.{Option, some, none}
 use Prim.Native.Nat.{ℕ, zero, suc, _-_, _%_, _≤_, _<_}
 use native.Mathlib.Omega.{arith}
 use borrow.Author.Tests.{le-ltb}
-use lib.ListN.{length, getD, take, drop, set, length-append, length-set, take-append-drop}
+use lib.ListN.{length, getD, take, drop, length-append, length-set, take-append-drop}
 use lib.Seq.{length-take-le, take-length, drop-length, getD-set-same, getD-at}
 use Rattle.code.specs.Symbols.{Below, letterKinds, asSymbols, hasUnknown}
 use Rattle.code.specs.laws.Letters.{length-as, as-below, as-append, as-take, as-drop, as-same, as-known, asSymbol, as-applied}
@@ -19,15 +19,14 @@ use Rattle.code.specs.Edits.{applied, placeOf, Fits, judged}
 use Rattle.code.specs.laws.Judged.{Named, judged-named, judged-fits, judged-left}
 use Rattle.code.specs.Reading.{endOf, SegmentResult, read, readSegment}
 use Rattle.code.specs.laws.ReadSegment.{Parts, read-parts}
-use Rattle.code.specs.Strands.{told, Outcome, scan, unfound, lostOutcome, lostAndRest, segmentAndRest, reading, outcomes}
+use Rattle.code.specs.Strands.{told, Outcome, scan, unfound, lostOutcome, lostAndRest, segmentAndRest, reading}
 use Rattle.code.specs.laws.Strands.{clean-read}
 use Rattle.code.specs.declared.Edit.{Edit}
 use Rattle.code.specs.declared.Edit.the-variants.{None, Sub, Del, Ins}
-use Rattle.code.specs.declared.Verdict.{Verdict}
-use Rattle.code.specs.declared.Verdict.the-variants.{Read, Unknown, Lost, NoStart}
+use Rattle.code.specs.declared.Verdict.the-variants.{Read, Unknown, Lost}
 use Rattle.report.specs.Report.{inLetters, reported}
-use Rattle.report.specs.Truth.{Site, symbolsAt, Gives, anew, Named-letter, Turns, Says, True-of, siteAt, siteFound, siteBehind, True-from, True-lines}
-use Rattle.report.specs.laws.Steps.{turns-symbols, symbols-turn, anew-below, first-lost}
+use Rattle.report.specs.Truth.{Site, symbolsAt, anew, Named-letter, Turns, Says, True-of, siteAt, siteBehind, True-from, True-lines}
+use Rattle.report.specs.laws.Steps.{turns-symbols, anew-below, first-lost}
 
 -- A front of letters
 

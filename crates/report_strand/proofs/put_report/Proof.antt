@@ -1,4 +1,3 @@
-use native.Mathlib.Omega.{arith}
 use borrow.Author.Needs.{needs}
 use Rattle.code.specs.Order.{order}
 use Rattle.report_strand.proofs.Shown.{lines-shown, refused-shown}
