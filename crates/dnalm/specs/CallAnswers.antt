@@ -27,7 +27,7 @@ use Rattle.code.specs.declared.Tallied as code-tallied
 use Rattle.code.specs.declared.Tallied.the-variants as T
 use Rattle.code.specs.Symbols.{letterOf}
 use Rattle.code.specs.Refusals.{numberOf, placeOf, testNumber}
-use Rattle.report.specs.Numbers.{kindOf, atOf, letterByte, stepOf}
+use Rattle.lines.specs.Numbers.{kindOf, atOf, letterByte, stepOf}
 use Rattle.dnalm.specs.declared.Written.{Written}
 use Rattle.dnalm.specs.declared.Counts.{Counts}
 use Rattle.dnalm.specs.declared.Piece.{Piece}

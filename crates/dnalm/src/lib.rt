@@ -20,7 +20,7 @@ use code::Located;
 use code::Reported;
 use code::Verdict;
 use code::Wrote;
-use report::lines::letter_of;
+use lines::letter_of;
 
 // What a writing answers: how many bytes were written; of a strand, its letters.
 #[repr(C)]

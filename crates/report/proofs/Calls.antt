@@ -24,7 +24,7 @@ use Rattle.code.specs.laws.Lists.{put-first}
 use Rattle.code.specs.Strands.{outcomes}
 use Rattle.code.specs.ReadCall.{receivedTest, pieceTest}
 use Rattle.code.specs.laws.ReadCall.{received-then}
-use Rattle.report.specs.Report.{linesOf}
+use Rattle.lines.specs.Report.{linesOf}
 use Rattle.report.specs.ReportCall.{reportOf, shortFor, reportTest, reportAs, reportCall, reportedAt, verdictCall}
 
 module _ (lines out : List ℕ) where

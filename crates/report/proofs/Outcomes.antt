@@ -22,7 +22,7 @@ use Rattle.code.specs.declared.Verdict.the-variants.{NoStart}
 use Rattle.reading.specs.Walks.{endsFrom, Found, startIn}
 use Rattle.reading.proofs.Fronts.{length-ends}
 use Rattle.reading.proofs.Spans.{ends-count, all-letters}
-use Rattle.report.specs.Report.{inLetters, reported}
+use Rattle.lines.specs.Report.{inLetters, reported}
 use Rattle.report.specs.Walked.{Inside, part, reportedFrom, Reportable}
 use Rattle.report.specs.laws.Named.{AllName, outcomes-name}
 

@@ -19,7 +19,7 @@ use Rattle.code.specs.Verdicts.{verdictOf}
 use Rattle.code.specs.declared.Verdict.{Verdict}
 use Rattle.text.specs.Put.{Appended}
 use Rattle.text.specs.laws.Put.{appended-nothing, appended-both}
-use Rattle.report.specs.Report.{inLetters, segmentLine, linesFrom}
+use Rattle.lines.specs.Report.{inLetters, segmentLine, linesFrom}
 use Rattle.report.specs.Walked.{Inside, part, reportedFrom, Reportable}
 
 module _ (verdicts ends letters : List ℕ) where

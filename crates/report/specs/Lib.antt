@@ -1,6 +1,3 @@
-pub mod Report
 pub mod ReportCall
-pub mod Truth
 pub mod Walked
-pub mod Numbers
 pub mod laws

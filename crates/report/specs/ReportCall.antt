@@ -7,13 +7,11 @@
 --   reportCall      the answer of a report, and the lent buffer afterwards
 --   reportedAt      what is reported of one segment
 --   verdictCall     the same, or the refusal
---   mostLine        the most bytes of a line
---   mostReport      the most bytes of a report
 --   Refuses-alike   a report refuses as a reading does
 use mathlib.Core.Path.{_≡_}
 use mathlib.Core.Bool.{Bool}
 use mathlib.Core.List.{List, map}
-use Prim.Native.Nat.{ℕ, _-_, _*_}
+use Prim.Native.Nat.{ℕ, _-_}
 use lib.Dec.{ltb}
 use lib.ListN.{length, getD}
 use Rattle.code.specs.declared.Refusal.the-variants.{ShortBuffer}
@@ -33,7 +31,7 @@ use Rattle.code.specs.Buffers.{overFront}
 use Rattle.code.specs.Sheet.{sheetBytes}
 use Rattle.code.specs.ReadCall.{foreignTest, receivedTest, readTest, pieceTest, outcomesOf}
 use Rattle.code.specs.Strands.{Outcome}
-use Rattle.report.specs.Report.{reported, linesOf}
+use Rattle.lines.specs.Report.{reported, linesOf, mostReport}
 
 -- the lines of letters cs, for an order
 abbrev pub reportOf : Order → List ℕ → List ℕ
@@ -69,14 +67,6 @@ reportedAt os i = getD (map reported os) i NoStart
 -- what is reported of segment i, from 1, or the refusal
 abbrev pub verdictCall : Order → List ℕ → ℕ → Reported
 verdictCall o cs i = unlessRefused (pieceTest o cs i) (R.Said (reportedAt (outcomesOf o cs) (i - 1))) R.Refused
-
--- the most bytes of a line: a number of two digits, a space, the word of an edit, a place of five, a space, a letter and a line feed
-abbrev pub mostLine : ℕ
-mostLine = 15
-
--- the most bytes of a report
-abbrev pub mostReport : ℕ
-mostReport = mostSegments * mostLine
 
 -- with room for every answer a report refuses as a reading does
 abbrev pub Refuses-alike : Type 0

@@ -10,7 +10,7 @@ use Rattle.code.specs.Verdicts.{verdictOf}
 use Rattle.code.specs.declared.Edit.the-variants.{None, Sub, Del, Ins}
 use Rattle.code.specs.declared.Verdict.{Verdict}
 use Rattle.code.specs.declared.Verdict.the-variants.{Read, Unknown, Lost, NoStart}
-use Rattle.report.specs.Report.{inLetters}
+use Rattle.lines.specs.Report.{inLetters}
 
 -- the place of a substitution or an insertion is one of the piece's
 abbrev pub Inside : Verdict → List ℕ → Type 0

@@ -1,6 +1,2 @@
-pub mod Cuts
-pub mod Lines
-pub mod Steps
-pub mod Truth
 pub mod Named
 pub mod ReportCall

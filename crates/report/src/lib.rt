@@ -1,17 +1,16 @@
 // The report calls: what happened to each segment.
-pub mod lines;
-
 use code::Checked;
 use code::Decoded;
+use code::Edit;
 use code::Refusal;
 use code::Reported;
 use code::Verdict;
 use code::Wrote;
-use lines::in_letters;
-use lines::put_lines;
+use lines::put_line;
 use reading::read_order;
 use reading::start_of;
 use refusal::received_test;
+use sheet::verdict_of;
 ghost use mathlib.Core.Path.{_≡_};
 ghost use Prim.Native.Nat.{_<_, _≤_};
 ghost use lib.ListN.{length};
@@ -22,8 +21,50 @@ ghost use Rattle.code.specs.Limits.{mostLetters};
 ghost use Rattle.code.specs.Refusals.{refuse};
 ghost use Rattle.code.specs.Order.{order, Taken};
 ghost use Rattle.code.specs.Strands.{outcomes};
-ghost use Rattle.report.specs.Report.{linesOf};
+ghost use Rattle.code.specs.Verdicts.{verdictOf};
+ghost use Rattle.text.specs.Put.{Appended};
+ghost use Rattle.lines.specs.Report.{inLetters, linesFrom, linesOf};
 ghost use Rattle.report.specs.ReportCall.{shortFor, reportAs, reportCall, reportedAt, verdictCall};
+ghost use Rattle.report.specs.Walked.{Inside, reportedFrom, Reportable};
+
+// The verdict of a number, with the letter that was received in the place of its symbol.
+fn in_letters(number: u32, piece: &[u8]) -> Verdict
+    requires { ⌜ Inside (verdictOf number) (now piece) ⌝ }
+    ensures { λ r. ⌜ r ≡ inLetters (verdictOf number) (now (piece .entry)) ⌝ }
+{
+    let v = verdict_of(number);
+    match v {
+        Verdict::Read(e) => match e {
+            Edit::None => v,
+            Edit::Sub(i, _) => Verdict::Read(Edit::Sub(i, piece[i])),
+            Edit::Del(_, _) => v,
+            Edit::Ins(i, _) => Verdict::Read(Edit::Ins(i, piece[i])),
+        },
+        Verdict::Unknown => v,
+        Verdict::Lost(_) => v,
+        Verdict::NoStart => v,
+    }
+}
+
+// The lines of all segments, from the numbers of their verdicts, the ends of their pieces and the letters, at the front of `out`; the answer is where
+// they end.
+fn put_lines(out: &mut [u8], verdicts: &[u32], ends: &[u16], letters: &[u8]) -> usize
+    requires { ⌜ Reportable 0 (now verdicts) (now ends) (now letters) ⌝ }
+    requires { ⌜ length (linesFrom 1 (reportedFrom 0 (now verdicts) (now ends) (now letters))) ≤ length (now out) ⌝ }
+    ensures { λ r. ⌜ Appended (now (out .entry)) 0 (linesFrom 1 (reportedFrom 0 (now (verdicts .entry)) (now (ends .entry)) (now (letters .entry)))) (now (out .exit)) r ⌝ }
+{
+    let mut end = 0;
+    let mut from = 0;
+    let mut i = 0;
+    while i < verdicts.len() {
+        let to = ends[i] as usize;
+        let v = in_letters(verdicts[i], &letters[from..to]);
+        i += 1;
+        end = put_line(out, end, i, v);
+        from = to;
+    }
+    end
+}
 
 // The lines of the segments of an order, from letters as numbers, at the front of `out`; or that `out` is too short. They are formed apart, since
 // only then their number of bytes is known.

@@ -17,7 +17,8 @@ use Rattle.code.specs.Order.{Order}
 use Rattle.code.specs.Buffers.{overFront}
 use Rattle.text.specs.Put.{Appended}
 use Rattle.console.specs.RefusedLine.{refusedLine}
-use Rattle.report.specs.ReportCall.{reportOf, strandTest, reportAs, reportCall, mostReport}
+use Rattle.lines.specs.Report.{mostReport}
+use Rattle.report.specs.ReportCall.{reportOf, strandTest, reportAs, reportCall}
 use Rattle.report.specs.laws.ReportCall.{report-room}
 use Rattle.report_strand.specs.ReportOutput.{reportText}
 

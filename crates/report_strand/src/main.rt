@@ -11,7 +11,7 @@ ghost use Prim.Native.Nat.{_≤_};
 ghost use lib.ListN.{length, take};
 ghost use Rattle.code.specs.Order.{order};
 ghost use Rattle.text.specs.Put.{Appended};
-ghost use Rattle.report.specs.ReportCall.{mostReport};
+ghost use Rattle.lines.specs.Report.{mostReport};
 ghost use Rattle.report_strand.specs.ReportOutput.{reportText, reportOutput};
 
 // What is reported of letters, for an order, at the front of `out`; the answer is where it ends.

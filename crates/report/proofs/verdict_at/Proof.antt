@@ -14,7 +14,7 @@ use Rattle.code.specs.Strands.{outcomes}
 use Rattle.reading.specs.Walks.{startIn}
 use Rattle.reading.proofs.Fronts.{lent-entries}
 use Rattle.reading.proofs.Spans.{span-inside, ends-array}
-use Rattle.report.specs.Report.{reported}
+use Rattle.lines.specs.Report.{reported}
 use Rattle.report.proofs.Outcomes.{in-front, Stands, found-at}
 use Rattle.report.proofs.verdict_at.Statement.{statement}
 use Rattle.report.proofs.verdict_at.Tie as tie

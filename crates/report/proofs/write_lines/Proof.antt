@@ -13,8 +13,7 @@ use Rattle.code.specs.Order.{Order, order}
 use Rattle.code.specs.laws.Order.{Ordered, order-fine}
 use Rattle.code.specs.Strands.{outcomes}
 use Rattle.reading.proofs.Fronts.{lent-entries}
-use Rattle.report.specs.Report.{linesFrom, linesOf}
-use Rattle.report.specs.ReportCall.{mostReport}
+use Rattle.lines.specs.Report.{linesFrom, linesOf, mostReport}
 use Rattle.report.specs.laws.Named.{lines-room}
 use Rattle.report.proofs.Outcomes.{Fronts, in-front, Reports, found-reports, numbers-long, places-long}
 use Rattle.report.proofs.Calls.{short-report, whole-report}

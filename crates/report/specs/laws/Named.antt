@@ -20,13 +20,12 @@ use Rattle.code.specs.laws.Strands.{length-reading}
 use Rattle.code.specs.declared.Edit.the-variants.{None, Sub, Del, Ins}
 use Rattle.code.specs.declared.Verdict.{Verdict}
 use Rattle.code.specs.declared.Verdict.the-variants.{Read, Unknown, Lost, NoStart}
-use Rattle.report.specs.Report.{inLetters, reported, linesOf}
-use Rattle.report.specs.ReportCall.{mostReport}
-use Rattle.report.specs.Truth.{Site, Lettered, Says, True-from}
+use Rattle.lines.specs.Report.{inLetters, reported, linesOf, mostReport}
+use Rattle.lines.specs.Truth.{Site, Lettered, Says, True-from}
 use Rattle.report.specs.Walked.{Inside}
-use Rattle.report.specs.laws.Lines.{lines-most}
-use Rattle.report.specs.laws.Steps.{anew-below}
-use Rattle.report.specs.laws.Truth.{true-lines}
+use Rattle.lines.specs.laws.Lines.{lines-most}
+use Rattle.lines.specs.laws.Steps.{anew-below}
+use Rattle.lines.specs.laws.Truth.{true-lines}
 
 -- a verdict names letters of its piece
 pub record Names (piece : List ℕ) (v : Verdict) : Type 0 where

@@ -23,7 +23,8 @@ use Rattle.code.specs.laws.Order.{order-fine}
 use Rattle.code.specs.Sheet.{sheetBytes}
 use Rattle.code.specs.ReadCall.{foreignTest, receivedTest, readTest}
 use Rattle.code.specs.laws.ReadCall.{received-fine, received-then, received-refused}
-use Rattle.report.specs.ReportCall.{reportOf, strandTest, shortFor, reportTest, mostReport, Refuses-alike}
+use Rattle.lines.specs.Report.{mostReport}
+use Rattle.report.specs.ReportCall.{reportOf, strandTest, shortFor, reportTest, Refuses-alike}
 use Rattle.report.specs.laws.Named.{lines-room}
 
 module _ (o : Order) (cs : List ℕ) where

@@ -5,8 +5,8 @@ use Rattle.code.specs.declared.Edit.the-variants.{None, Sub, Del, Ins}
 use Rattle.code.specs.declared.Verdict.{Verdict}
 use Rattle.code.specs.declared.Verdict.the-variants.{Read, Unknown, Lost, NoStart}
 use Rattle.report.specs.Walked.{Inside}
-use Rattle.report.proofs.lines.in_letters.Statement.{statement}
-use Rattle.report.proofs.lines.in_letters.Tie as tie
+use Rattle.report.proofs.in_letters.Statement.{statement}
+use Rattle.report.proofs.in_letters.Tie as tie
 
 pub in-letters-spec : {M : Type 1} → statement M
 in-letters-spec =

@@ -3,10 +3,10 @@ use borrow.Author.Needs.{needs}
 use lib.ListN.{length-append}
 use Rattle.text.specs.Decimal.{decimal}
 use Rattle.text.specs.laws.Put.{appended-both}
-use Rattle.report.specs.Report.{edited}
-use Rattle.report.specs.laws.Lines.{length-edited}
-use Rattle.report.proofs.lines.put_edited.Statement.{statement}
-use Rattle.report.proofs.lines.put_edited.Tie as tie
+use Rattle.lines.specs.Report.{edited}
+use Rattle.lines.specs.laws.Lines.{length-edited}
+use Rattle.lines.proofs.put_edited.Statement.{statement}
+use Rattle.lines.proofs.put_edited.Tie as tie
 
 pub put-edited-spec : {M : Type 1} → statement M
 unfolding edited

@@ -26,7 +26,7 @@ use Rattle.code.specs.Reading.{Shift, level, early, late, moved, firstShift, wh
 use Rattle.code.specs.laws.MessageBelow.{read-message-below}
 use Rattle.code.specs.declared.Edit.{Edit}
 use Rattle.code.specs.declared.Edit.the-variants.{None, Sub, Del, Ins}
-use Rattle.report.specs.Truth.{Site, symbolsAt, dataOf, Gives, anew, TurnsInto, NoWord, Lost-7, Lost-8, Lost-9, Loses, in-3, in-6, in-7, in-8, in-9, First}
+use Rattle.lines.specs.Truth.{Site, symbolsAt, dataOf, Gives, anew, TurnsInto, NoWord, Lost-7, Lost-8, Lost-9, Loses, in-3, in-6, in-7, in-8, in-9, First}
 
 -- the edits of step 9, and those that name letters
 

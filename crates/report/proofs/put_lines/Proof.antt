@@ -3,8 +3,8 @@ use native.Mathlib.Omega.{arith}
 use borrow.Author.Needs.{needs}
 use lib.ListN.{length}
 use Rattle.report.proofs.Putting.{Putting, putting-begin, putting-next, putting-room, putting-turn, putting-end}
-use Rattle.report.proofs.lines.put_lines.Statement.{statement}
-use Rattle.report.proofs.lines.put_lines.Tie as tie
+use Rattle.report.proofs.put_lines.Statement.{statement}
+use Rattle.report.proofs.put_lines.Tie as tie
 
 abbrev Inv-loop : tie.InvT-loop
 Inv-loop out₀ verdicts ends letters end₀ from₀ i₀ out end from i = Putting verdicts ends letters out₀ out end from i

@@ -7,11 +7,14 @@
 --   segmentLine   the line of a segment
 --   linesFrom     the lines of verdicts
 --   linesOf       the lines of a reading
+--   mostLine      the most bytes of a line
+--   mostReport    the most bytes of a report
 use mathlib.Core.List.{List, [], _∷_, _++_, map}
-use Prim.Native.Nat.{ℕ, suc}
+use Prim.Native.Nat.{ℕ, suc, _*_}
 use lib.ListN.{getD}
 use Rattle.code.specs.Ascii.{ascii}
 use Rattle.code.specs.Symbols.{letterOf}
+use Rattle.code.specs.Limits.{mostSegments}
 use Rattle.code.specs.Strands.{Outcome}
 use Rattle.code.specs.declared.Edit.the-variants.{None, Sub, Del, Ins}
 use Rattle.code.specs.declared.Verdict.{Verdict}
@@ -64,3 +67,11 @@ linesFrom n (v ∷ vs) = segmentLine n v ++ linesFrom (suc n) vs
 -- the lines of a reading: segments are counted from 1
 abbrev pub linesOf : List Outcome → List ℕ
 linesOf os = linesFrom 1 (map reported os)
+
+-- the most bytes of a line: a number of two digits, a space, the word of an edit, a place of five, a space, a letter and a line feed
+abbrev pub mostLine : ℕ
+mostLine = 15
+
+-- the most bytes of a report
+abbrev pub mostReport : ℕ
+mostReport = mostSegments * mostLine

@@ -24,9 +24,9 @@ use Rattle.code.specs.laws.Strands.{clean-read}
 use Rattle.code.specs.declared.Edit.{Edit}
 use Rattle.code.specs.declared.Edit.the-variants.{None, Sub, Del, Ins}
 use Rattle.code.specs.declared.Verdict.the-variants.{Read, Unknown, Lost}
-use Rattle.report.specs.Report.{inLetters, reported}
-use Rattle.report.specs.Truth.{Site, symbolsAt, anew, Named-letter, Turns, Says, True-of, siteAt, siteBehind, True-from, True-lines}
-use Rattle.report.specs.laws.Steps.{turns-symbols, anew-below, first-lost}
+use Rattle.lines.specs.Report.{inLetters, reported}
+use Rattle.lines.specs.Truth.{Site, symbolsAt, anew, Named-letter, Turns, Says, True-of, siteAt, siteBehind, True-from, True-lines}
+use Rattle.lines.specs.laws.Steps.{turns-symbols, anew-below, first-lost}
 
 -- A front of letters
 

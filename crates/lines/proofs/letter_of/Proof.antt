@@ -5,8 +5,8 @@ use native.Mathlib.Omega.{arith}
 use borrow.Author.Needs.{needs}
 use lib.ListN.{List·getD-eq-default}
 use Rattle.code.specs.Symbols.{letterKinds, letterOf}
-use Rattle.report.proofs.lines.letter_of.Statement.{statement}
-use Rattle.report.proofs.lines.letter_of.Tie as tie
+use Rattle.lines.proofs.letter_of.Statement.{statement}
+use Rattle.lines.proofs.letter_of.Tie as tie
 
 -- a number that has no letter
 no-letter : (x : ℕ) → letterKinds ≤ x → letterOf x ≡ 0

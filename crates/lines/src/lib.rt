@@ -1,7 +1,6 @@
-// The lines of a report.
+// The lines of a report: the text of a verdict.
 use code::Edit;
 use code::Verdict;
-use sheet::verdict_of;
 use text::decimal::put_decimal;
 use text::decimal::put_named;
 use text::put::put;
@@ -9,10 +8,8 @@ ghost use mathlib.Core.Path.{_≡_};
 ghost use Prim.Native.Nat.{_+_, _≤_};
 ghost use lib.ListN.{length};
 ghost use Rattle.code.specs.Symbols.{letterOf};
-ghost use Rattle.code.specs.Verdicts.{verdictOf};
 ghost use Rattle.text.specs.Put.{Appended};
-ghost use Rattle.report.specs.Report.{inLetters, edited, words, segmentLine, linesFrom};
-ghost use Rattle.report.specs.Walked.{Inside, reportedFrom, Reportable};
+ghost use Rattle.lines.specs.Report.{edited, words, segmentLine};
 
 // The letter of a number: those of the symbols, and N; 0 for a number that has none.
 pub fn letter_of(x: u8) -> u8
@@ -55,7 +52,7 @@ fn put_words(out: &mut [u8], at: usize, v: Verdict) -> usize
 }
 
 // The line of the n-th segment.
-fn put_line(out: &mut [u8], at: usize, n: usize, v: Verdict) -> usize
+pub fn put_line(out: &mut [u8], at: usize, n: usize, v: Verdict) -> usize
     requires { ⌜ at + length (segmentLine n v) ≤ length (now out) ⌝ }
     ensures { λ r. ⌜ Appended (now (out .entry)) at (segmentLine n v) (now (out .exit)) r ⌝ }
 {
@@ -63,43 +60,4 @@ fn put_line(out: &mut [u8], at: usize, n: usize, v: Verdict) -> usize
     let space = put(out, number, b" ");
     let end = put_words(out, space, v);
     put(out, end, b"\n")
-}
-
-// The verdict of a number, with the letter that was received in the place of its symbol.
-pub fn in_letters(number: u32, piece: &[u8]) -> Verdict
-    requires { ⌜ Inside (verdictOf number) (now piece) ⌝ }
-    ensures { λ r. ⌜ r ≡ inLetters (verdictOf number) (now (piece .entry)) ⌝ }
-{
-    let v = verdict_of(number);
-    match v {
-        Verdict::Read(e) => match e {
-            Edit::None => v,
-            Edit::Sub(i, _) => Verdict::Read(Edit::Sub(i, piece[i])),
-            Edit::Del(_, _) => v,
-            Edit::Ins(i, _) => Verdict::Read(Edit::Ins(i, piece[i])),
-        },
-        Verdict::Unknown => v,
-        Verdict::Lost(_) => v,
-        Verdict::NoStart => v,
-    }
-}
-
-// The lines of all segments, from the numbers of their verdicts, the ends of their pieces and the letters, at the front of `out`; the answer is where
-// they end.
-pub fn put_lines(out: &mut [u8], verdicts: &[u32], ends: &[u16], letters: &[u8]) -> usize
-    requires { ⌜ Reportable 0 (now verdicts) (now ends) (now letters) ⌝ }
-    requires { ⌜ length (linesFrom 1 (reportedFrom 0 (now verdicts) (now ends) (now letters))) ≤ length (now out) ⌝ }
-    ensures { λ r. ⌜ Appended (now (out .entry)) 0 (linesFrom 1 (reportedFrom 0 (now (verdicts .entry)) (now (ends .entry)) (now (letters .entry)))) (now (out .exit)) r ⌝ }
-{
-    let mut end = 0;
-    let mut from = 0;
-    let mut i = 0;
-    while i < verdicts.len() {
-        let to = ends[i] as usize;
-        let v = in_letters(verdicts[i], &letters[from..to]);
-        i += 1;
-        end = put_line(out, end, i, v);
-        from = to;
-    }
-    end
 }

@@ -30,7 +30,7 @@ use Rattle.code.specs.declared.Edit.{Edit}
 use Rattle.code.specs.declared.Edit.the-variants.{None, Sub, Del, Ins}
 use Rattle.code.specs.declared.Verdict.{Verdict}
 use Rattle.code.specs.declared.Verdict.the-variants.{Read, Unknown, Lost, NoStart}
-use Rattle.report.specs.Report.{reported, segmentLine}
+use Rattle.lines.specs.Report.{reported, segmentLine}
 
 -- where a segment starts: whether it has a marker, the symbol f before it, and the received letters from its start P on
 pub record Site : Type 0 where

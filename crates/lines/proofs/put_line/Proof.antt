@@ -1,10 +1,10 @@
 use native.Mathlib.Omega.{arith}
 use borrow.Author.Needs.{needs}
 use Rattle.text.specs.laws.Put.{appended-both}
-use Rattle.report.specs.Report.{segmentLine}
-use Rattle.report.specs.laws.Lines.{length-line}
-use Rattle.report.proofs.lines.put_line.Statement.{statement}
-use Rattle.report.proofs.lines.put_line.Tie as tie
+use Rattle.lines.specs.Report.{segmentLine}
+use Rattle.lines.specs.laws.Lines.{length-line}
+use Rattle.lines.proofs.put_line.Statement.{statement}
+use Rattle.lines.proofs.put_line.Tie as tie
 
 pub put-line-spec : {M : Type 1} → statement M
 unfolding segmentLine

@@ -22,11 +22,11 @@ use Rattle.code.specs.laws.Verdicts.{AllNumbered}
 use Rattle.text.specs.Lines.{feed}
 use Rattle.text.specs.Decimal.{decimal}
 use Rattle.text.specs.laws.Decimal.{length-decimal, decimal-injective}
-use Rattle.report.specs.Report.{space, edited, words, segmentLine, linesFrom}
-use Rattle.report.specs.ReportCall.{mostLine}
-use Rattle.report.specs.Truth.{Lettered, Apart-lines}
-use Rattle.report.specs.Numbers.{kindOf, atOf, stepOf}
-use Rattle.report.specs.laws.Cuts.{apart-append, apart-first, digits-apart, front, behind, front-append, number-front, number-behind}
+use Rattle.lines.specs.Report.{space, edited, words, segmentLine, linesFrom}
+use Rattle.lines.specs.Report.{mostLine}
+use Rattle.lines.specs.Truth.{Lettered, Apart-lines}
+use Rattle.lines.specs.Numbers.{kindOf, atOf, stepOf}
+use Rattle.lines.specs.laws.Cuts.{apart-append, apart-first, digits-apart, front, behind, front-append, number-front, number-behind}
 
 -- Lengths
 

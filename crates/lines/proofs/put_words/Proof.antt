@@ -7,9 +7,9 @@ use lib.ListN.{length}
 use Rattle.code.specs.declared.Edit.the-variants.{None, Sub, Del, Ins}
 use Rattle.code.specs.declared.Verdict.{Verdict}
 use Rattle.code.specs.declared.Verdict.the-variants.{Read, Unknown, Lost, NoStart}
-use Rattle.report.specs.Report.{words}
-use Rattle.report.proofs.lines.put_words.Statement.{statement}
-use Rattle.report.proofs.lines.put_words.Tie as tie
+use Rattle.lines.specs.Report.{words}
+use Rattle.lines.proofs.put_words.Statement.{statement}
+use Rattle.lines.proofs.put_words.Tie as tie
 
 -- a verdict's words have room behind the first `at` bytes
 abbrev Room : List ℕ → ℕ → Verdict → Type 0

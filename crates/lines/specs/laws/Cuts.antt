@@ -15,7 +15,7 @@ use lib.Dec.{eqb, ltb}
 use lib.ListN.{getD}
 use Rattle.text.specs.HexDigit.{digitOf}
 use Rattle.text.specs.Decimal.{decimalIn, decimal}
-use Rattle.report.specs.Report.{space}
+use Rattle.lines.specs.Report.{space}
 
 -- no entry of a list is c
 abbrev pub Apart : ℕ → List ℕ → Type 0

@@ -1,0 +1,4 @@
+pub mod Report
+pub mod Numbers
+pub mod Truth
+pub mod laws
