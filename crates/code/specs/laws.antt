@@ -17,6 +17,7 @@ pub mod Label
 pub mod Tallies
 pub mod Edits
 pub mod Judged
+pub mod JudgedPlaces
 pub mod Reading
 pub mod Letters
 pub mod EditedMessage

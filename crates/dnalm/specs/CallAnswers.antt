@@ -25,16 +25,15 @@ use Rattle.code.specs.declared.Labelled.{Labelled}
 use Rattle.code.specs.declared.Tally as code-tally
 use Rattle.code.specs.declared.Tallied as code-tallied
 use Rattle.code.specs.declared.Tallied.the-variants as T
-use Rattle.code.specs.Symbols.{letterOf}
 use Rattle.code.specs.Refusals.{numberOf, placeOf, testNumber}
 use Rattle.lines.specs.Numbers.{kindOf, atOf, letterByte, stepOf}
-use Rattle.dnalm.specs.declared.Written.{Written}
-use Rattle.dnalm.specs.declared.Counts.{Counts}
-use Rattle.dnalm.specs.declared.Piece.{Piece}
-use Rattle.dnalm.specs.declared.Said.{Said}
-use Rattle.dnalm.specs.declared.Order.{Order}
-use Rattle.dnalm.specs.declared.Tally.{Tally}
-use Rattle.dnalm.specs.declared.Tallied.{Tallied}
+use Rattle.dnalm.specs.declared.structs.Written.{Written}
+use Rattle.dnalm.specs.declared.structs.Counts.{Counts}
+use Rattle.dnalm.specs.declared.structs.Piece.{Piece}
+use Rattle.dnalm.specs.declared.structs.Said.{Said}
+use Rattle.dnalm.specs.declared.structs.Order.{Order}
+use Rattle.dnalm.specs.declared.structs.Tally.{Tally}
+use Rattle.dnalm.specs.declared.structs.Tallied.{Tallied}
 
 -- a call's answer told in numbers, with its buffers as they are
 abbrev pub answered : {A B C : Type 0} → (A → B) → A × C → B × C
@@ -61,16 +60,13 @@ abbrev pub fromLocated : Located → Piece
 fromLocated (L.At start end) = record { refusal = 0; place = 0; start = start; length = end - start }
 fromLocated (L.Refused r) = record { refusal = numberOf r; place = placeOf r; start = 0; length = 0 }
 
--- an edit of a kind, with its place and its letter, and a verdict without an edit, with the step that lost its segment or 0
-abbrev pub editNumbers : ℕ → ℕ → ℕ → Said
-editNumbers kind at x = record { refusal = 0; place = 0; kind = kind; at = at; letter = letterOf x; step = 0 }
+-- what is said of a segment, by its numbers
+abbrev pub inNumbers : ℕ → ℕ → ℕ → ℕ → Said
+inNumbers kind at letter step = record { refusal = 0; place = 0; kind = kind; at = at; letter = letter; step = step }
 
-abbrev pub plainNumbers : ℕ → ℕ → Said
-plainNumbers kind step = record { refusal = 0; place = 0; kind = kind; at = 0; letter = 0; step = step }
-
--- a verdict: its kind, and the place and the letter of its edit, or the step that lost its segment
+-- a verdict: its kind, the place and the letter of its edit, the step that lost its segment
 abbrev pub fromVerdict : Verdict → Said
-fromVerdict v = record { refusal = 0; place = 0; kind = kindOf v; at = atOf v; letter = letterByte v; step = stepOf v }
+fromVerdict v = inNumbers (kindOf v) (atOf v) (letterByte v) (stepOf v)
 
 -- the answer of a verdict call
 abbrev pub fromReported : Reported → Said

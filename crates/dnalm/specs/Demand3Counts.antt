@@ -6,7 +6,7 @@ use Prim.Native.Nat.{ℕ}
 use Rattle.code.specs.declared.Counted.{Counted}
 use Rattle.code.specs.Order.{Order}
 use Rattle.code.specs.ReadDemand.{Demand-3-call}
-use Rattle.dnalm.specs.declared.Counts.{Counts}
+use Rattle.dnalm.specs.declared.structs.Counts.{Counts}
 use Rattle.dnalm.specs.CallAnswers.{fromCounted}
 
 -- the numbers of a call are those of an answer that keeps demand 3 with the same buffers

@@ -1,6 +1,8 @@
 // The public calls under C names: numbers, structs of numbers and slices alone cross the border. No call asks anything of its caller.
 // In an answer `refusal` is 0 where the call is taken and else the refusal's number; `place` is the first foreign letter's, from 0,
 // where `refusal` is 6, and else 0. The other numbers of a refused call are 0; those of a tally are the old ones.
+pub mod structs;
+
 ghost use mathlib.Core.Path.{_≡_};
 ghost use Rattle.code.specs.Symbols.{symbolOf};
 ghost use Rattle.code.specs.Refusals.{testNumber};
@@ -10,7 +12,8 @@ ghost use Rattle.code.specs.Order.{order};
 ghost use Rattle.report.specs.ReportCall.{reportCall, verdictCall};
 ghost use Rattle.code.specs.Label.{labelCall, labelRead};
 ghost use Rattle.code.specs.Tallies.{tallied};
-ghost use Rattle.dnalm.specs.CallAnswers.{answered, fromLetter, fromWrote, fromCounted, fromLocated, editNumbers, plainNumbers, fromVerdict, fromReported, fromLabelled, asTally, fromTallied};
+ghost use Rattle.dnalm.specs.CallAnswers.{answered, fromLetter, fromWrote, fromCounted, fromLocated};
+ghost use Rattle.dnalm.specs.CallAnswers.{inNumbers, fromVerdict, fromReported, fromLabelled, asTally, fromTallied};
 ghost use Rattle.dnalm.specs.Demand3Counts.{Demand-3-counts};
 use code::Checked;
 use code::Counted;
@@ -21,73 +24,13 @@ use code::Reported;
 use code::Verdict;
 use code::Wrote;
 use lines::letter_of;
-
-// What a writing answers: how many bytes were written; of a strand, its letters.
-#[repr(C)]
-pub struct Written {
-    pub refusal: u32,
-    pub place: usize,
-    pub length: usize,
-}
-
-// What a reading answers: how many segments are clean, corrected and lost.
-#[repr(C)]
-pub struct Counts {
-    pub refusal: u32,
-    pub place: usize,
-    pub clean: u32,
-    pub corrected: u32,
-    pub lost: u32,
-}
-
-// What a piece call answers: where the piece starts in the letters, and how many letters it has.
-#[repr(C)]
-pub struct Piece {
-    pub refusal: u32,
-    pub place: usize,
-    pub start: usize,
-    pub length: usize,
-}
-
-// What a verdict call answers: the kind of what is said of a segment, 0 clean, 1 unknown, 2 sub, 3 del, 4 ins, 5 lost in a step, 6 lost for want of a
-// start; the place of its edit in the written segment, from 0, and its letter in ASCII; the step that lost it. What it does not have is 0.
-#[repr(C)]
-pub struct Said {
-    pub refusal: u32,
-    pub place: usize,
-    pub kind: u32,
-    pub at: usize,
-    pub letter: u8,
-    pub step: u8,
-}
-
-// What reading a label answers: B, and the layout, which is the first `count` of `lengths`.
-#[repr(C)]
-pub struct Order {
-    pub refusal: u32,
-    pub b: u32,
-    pub count: usize,
-    pub lengths: [u16; 64],
-}
-
-// How many strands were read, and their segments by mark.
-#[repr(C)]
-pub struct Tally {
-    pub strands: u32,
-    pub clean: u32,
-    pub corrected: u32,
-    pub lost: u32,
-}
-
-// What adding to a tally answers: the four counts afterwards.
-#[repr(C)]
-pub struct Tallied {
-    pub refusal: u32,
-    pub strands: u32,
-    pub clean: u32,
-    pub corrected: u32,
-    pub lost: u32,
-}
+use structs::Counts;
+use structs::Order;
+use structs::Piece;
+use structs::Said;
+use structs::Tallied;
+use structs::Tally;
+use structs::Written;
 
 // Answers what a byte of a strand is, as `symbols::symbol_of` does: 0 to 3 for the symbol of A, T, C and G, 4 for N, which stands for an unknown
 // letter, 5 for a foreign byte.
@@ -202,30 +145,16 @@ pub extern "C" fn dnalm_report(lengths: &[u16], b: u32, letters: &[u8], out: &mu
     told(report::write(lengths, b, letters, out))
 }
 
-// An edit in numbers.
-fn edit_told(kind: u32, at: usize, x: u8) -> Said
-    ensures { λ r. ⌜ r ≡ editNumbers kind at x ⌝ }
+// What is said of a segment, by its numbers.
+fn said(kind: u32, at: usize, letter: u8, step: u8) -> Said
+    ensures { λ r. ⌜ r ≡ inNumbers kind at letter step ⌝ }
 {
     Said {
         refusal: 0,
         place: 0,
         kind,
         at,
-        letter: letter_of(x),
-        step: 0,
-    }
-}
-
-// A verdict without an edit in numbers.
-fn plain_told(kind: u32, step: u8) -> Said
-    ensures { λ r. ⌜ r ≡ plainNumbers kind step ⌝ }
-{
-    Said {
-        refusal: 0,
-        place: 0,
-        kind,
-        at: 0,
-        letter: 0,
+        letter,
         step,
     }
 }
@@ -236,14 +165,14 @@ fn verdict_told(v: Verdict) -> Said
 {
     match v {
         Verdict::Read(e) => match e {
-            Edit::None => plain_told(0, 0),
-            Edit::Sub(i, x) => edit_told(2, i, x),
-            Edit::Del(i, x) => edit_told(3, i, x),
-            Edit::Ins(i, x) => edit_told(4, i, x),
+            Edit::None => said(0, 0, 0, 0),
+            Edit::Sub(i, x) => said(2, i, letter_of(x), 0),
+            Edit::Del(i, x) => said(3, i, letter_of(x), 0),
+            Edit::Ins(i, x) => said(4, i, letter_of(x), 0),
         },
-        Verdict::Unknown => plain_told(1, 0),
-        Verdict::Lost(step) => plain_told(5, step),
-        Verdict::NoStart => plain_told(6, 0),
+        Verdict::Unknown => said(1, 0, 0, 0),
+        Verdict::Lost(step) => said(5, 0, 0, step),
+        Verdict::NoStart => said(6, 0, 0, 0),
     }
 }
 

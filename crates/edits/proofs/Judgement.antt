@@ -13,7 +13,8 @@ use lib.Seq.{take-all, set-getD, set-split, split-at}
 use Rattle.code.specs.Repair.{putIn, leaveOut}
 use Rattle.code.specs.laws.EditedBlock.{length-leave, length-put}
 use Rattle.code.specs.Edits.{judged}
-use Rattle.code.specs.laws.Judged.{Misses, judged-same, judged-missed, judged-sub, judged-del, judged-ins}
+use Rattle.code.specs.laws.Judged.{judged-same}
+use Rattle.code.specs.laws.JudgedPlaces.{Misses, judged-missed, judged-sub, judged-del, judged-ins}
 use Rattle.code.specs.Reading.{isPrefix}
 use Rattle.code.specs.declared.Edit.the-variants.{None, Sub, Del, Ins}
 use Rattle.edits.specs.Judgement.{common, runStart}
