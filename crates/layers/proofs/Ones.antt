@@ -1,9 +1,8 @@
--- The ones of a layer from a place on, and a bit times a number.
+-- The ones of a layer from a place on.
 use mathlib.Core.Path.{_≡_, ap, _∙_}
 use mathlib.Core.Bool.{false}
 use mathlib.Core.List.{List, _∷_}
-use Prim.Native.Nat.{ℕ, zero, suc, _+_, _*_, _≤_, _<_}
-use native.Mathlib.Nat.{zero-mul, one-mul}
+use Prim.Native.Nat.{ℕ, suc, _+_, _<_}
 use native.Mathlib.Omega.{arith}
 use lib.ListN.{length, getD, drop, drop-of-length-le}
 use lib.Seq.{drop-cons}
@@ -23,8 +22,3 @@ ones-step s m j h = rw (layer-step s m j h)
 pub no-ones : (s : ℕ) (m : List ℕ) → ones (drop (length m) (layer s m)) ≡ 0
 unfolding ones
 no-ones s m = rw (drop-of-length-le (layer s m) {i = length m} (omega (arith, length-layer s m)))
-
-pub product-le : (b n : ℕ) → b < 2 → b * n ≤ n
-product-le zero n h = omega (arith, zero-mul n)
-product-le (suc zero) n h = omega (arith, one-mul n)
-product-le (suc (suc b)) n h = absurd (omega arith)

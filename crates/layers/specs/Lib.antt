@@ -1,1 +1,2 @@
 pub mod LayerSums
+pub mod SideBySide

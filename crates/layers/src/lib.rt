@@ -1,10 +1,13 @@
 // The layers of a list of symbols: the number of syndrome symbols, sums of places and syndromes.
+use places::words::four_at;
 ghost use mathlib.Core.Path.{_≡_};
-ghost use Prim.Native.Nat.{_+_, _-_, _<_, _≤_};
-ghost use lib.ListN.{length, take};
+ghost use mathlib.Core.Bool.{cond};
+ghost use Prim.Native.Nat.{_+_, _-_, _*_, _<_, _≤_};
+ghost use lib.ListN.{length, take, drop};
 ghost use Rattle.code.specs.Bounds.{longest, widest};
 ghost use Rattle.code.specs.Layers.{bit, digit, sumOfPlaces, syndrome, width, number};
 ghost use Rattle.layers.specs.LayerSums.{both, sumsOf};
+ghost use Rattle.layers.specs.SideBySide.{half, sides, runningOf, bytesOf, bitBytes, halves, columnOnes, columnPlaces, Block};
 
 // A number for each layer.
 pub struct Layers {
@@ -16,6 +19,12 @@ pub struct Layers {
 pub struct Summed {
     pub check: u8,
     pub places: Layers,
+}
+
+// The numbers of ones and the sums of places of both layers, the low layer's in the lower half of each word and the high layer's in the upper.
+struct Running {
+    ones: u64,
+    places: u64,
 }
 
 // t, the number of syndrome symbols that k message symbols have.
@@ -34,29 +43,97 @@ pub fn digit_of(symbol: u8, shift: u8) -> usize
     ((symbol >> shift) & 1) as usize
 }
 
-// The check, and the sum of places of each layer.
+// What a place adds to the sum of places of a layer: its number where the symbol there has a one, and else 0.
+pub fn place_of(symbol: u8, shift: u8, place: usize) -> usize
+    requires { ⌜ shift < 2 ⌝ }
+    ensures { λ r. ⌜ r ≡ cond (bit shift symbol) place 0 ⌝ }
+{
+    if digit_of(symbol, shift) == 1 {
+        return place;
+    }
+    0
+}
+
+// The bits of both layers of the bytes of a word, a byte each: the low layer's in the lower half, the high layer's in the upper half.
+fn spread(word: u64) -> u64
+    requires { ⌜ word < half ⌝ }
+    ensures { λ r. ⌜ r ≡ sides bitBytes (bytesOf 4 word) ⌝ }
+{
+    (word | (word << 31)) & 0x0101010101010101
+}
+
+// The bits of both layers of the four symbols from place i on.
+fn row_at(symbols: &[u8], i: usize) -> u64
+    requires { ⌜ i + 4 ≤ length (now symbols) ⌝ }
+    ensures { λ r. ⌜ r ≡ sides bitBytes (take 4 (drop i (now (symbols .entry)))) ⌝ }
+{
+    spread(four_at(symbols, i) as u64)
+}
+
+// The numbers of ones and the sums of places that columns of four add up to: `ones` has the ones of each column, and `behind`, for each, the
+// ones behind each row, which count for all four symbols of the row.
+fn folded(ones: u64, behind: u64) -> Running
+    ensures { λ r. ⌜ r ≡ record { ones = halves columnOnes ones; places = 4 * halves columnOnes behind + halves columnPlaces ones } ⌝ }
+{
+    let odd = (ones >> 8) & 0x00FF00FF00FF00FF;
+    let pairs = (ones & 0x00FF00FF00FF00FF) + odd;
+    let rows = (behind & 0x00FF00FF00FF00FF) + ((behind >> 8) & 0x00FF00FF00FF00FF);
+    let sums = 4 * rows + pairs + odd;
+    Running {
+        ones: (pairs + (pairs >> 16)) & 0x0000FFFF0000FFFF,
+        places: (sums + ((sums + 2 * pairs) >> 16)) & 0x0000FFFF0000FFFF,
+    }
+}
+
+// The numbers of ones and the sums of places of the symbols from place `from` on, by running sums of rows of four, two rows at a time.
+fn block_sums(symbols: &[u8], from: usize) -> Running
+    requires { ⌜ Block from (length (now symbols)) ⌝ }
+    ensures { λ r. ⌜ r ≡ runningOf (drop from (now (symbols .entry))) ⌝ }
+{
+    let mut i = symbols.len();
+    let mut ones: u64 = 0;
+    let mut behind: u64 = 0;
+    while from < i {
+        i -= 8;
+        behind += ones;
+        ones += row_at(symbols, i + 4);
+        behind += ones;
+        ones += row_at(symbols, i);
+    }
+    folded(ones, behind)
+}
+
+// Where the last of n symbols start that are eights and not more than 64.
+fn block_start(n: usize) -> usize
+    ensures { λ r. ⌜ Block r n ⌝ }
+{
+    if 64 < n {
+        return n - 64;
+    }
+    n % 8
+}
+
+// The check, and the sum of places of each layer, by running sums from the last symbol to the first: the number of ones so far is added at
+// each symbol.
 pub fn sums(symbols: &[u8]) -> Summed
     requires { ⌜ length (now symbols) ≤ longest ⌝ }
     ensures { λ r. ⌜ r ≡ sumsOf (now (symbols .entry)) ⌝ }
 {
-    let n = symbols.len();
-    let mut i = 0;
-    let mut total: u16 = 0;
-    let mut high: u16 = 0;
-    let mut low: u16 = 0;
-    while i < n {
-        let x = symbols[i];
-        let place = i as u16 + 1;
-        total += x as u16;
-        high += digit_of(x, 1) as u16 * place;
-        low += digit_of(x, 0) as u16 * place;
-        i += 1;
+    let mut i = block_start(symbols.len());
+    let block = block_sums(symbols, i);
+    let mut ones = block.ones;
+    let mut places = block.places;
+    while 0 < i {
+        i -= 1;
+        let bits = spread(symbols[i] as u64);
+        ones += bits;
+        places += ones;
     }
     Summed {
-        check: (total % 4) as u8,
+        check: ((ones + (ones >> 31)) % 4) as u8,
         places: Layers {
-            high: high as usize,
-            low: low as usize,
+            high: (places >> 32) as usize,
+            low: (places % 4294967296) as usize,
         },
     }
 }
@@ -69,8 +146,8 @@ pub fn with_last(symbols: &[u8], places: Layers) -> Layers
     let k = symbols.len();
     let x = symbols[k - 1];
     Layers {
-        high: places.high + k * digit_of(x, 1),
-        low: places.low + k * digit_of(x, 0),
+        high: places.high + place_of(x, 1, k),
+        low: places.low + place_of(x, 0, k),
     }
 }
 
@@ -82,8 +159,8 @@ pub fn without_last(symbols: &[u8], places: Layers) -> Layers
     let k = symbols.len();
     let x = symbols[k - 1];
     Layers {
-        high: places.high - k * digit_of(x, 1),
-        low: places.low - k * digit_of(x, 0),
+        high: places.high - place_of(x, 1, k),
+        low: places.low - place_of(x, 0, k),
     }
 }
 

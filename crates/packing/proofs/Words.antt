@@ -2,16 +2,20 @@
 --   or-word, and-word   byte by byte
 --   mask-byte           the lowest byte
 --   or-symbols          the byte of four symbols
---   or-bytes            the word of four bytes
 --   word-bytes          the bytes of a word
+--   word-symbols        the symbols of a word
 --   round               one round of shift, or and mask
 --   pack-rounds         a word of four symbols to a byte
 --   spread-rounds       a byte to a word of four symbols
 use mathlib.Core.Path.{_≡_, _∙_}
-use Prim.Native.Nat.{ℕ, _+_, _*_, _/_, _%_, _<_}
+use mathlib.Core.List.{List}
+use Prim.Native.Nat.{ℕ, _+_, _*_, _/_, _%_, _<_, _≤_}
 use native.Mathlib.Omega.{arith}
 use lib.Bits.{bitAnd, bitOr, and-mask, and-block, or-block, or-shifted, or-shifted-r, or-zero-l, or-zero-r, and-zero-r}
-use Rattle.code.specs.Symbols.{byteOf}
+use lib.ListN.{length, getD, take, drop}
+use Rattle.code.specs.Symbols.{Below, byteOf}
+use Rattle.places.specs.Words as places
+use Rattle.places.proofs.Bytes.{word-four}
 use Rattle.packing.specs.Words.{wordOf, Symbols}
 
 module _ (a b c d e f g h : ℕ) (a8 : a < 256) (b8 : b < 256) (c8 : c < 256) (e8 : e < 256) (f8 : f < 256) (g8 : g < 256) where
@@ -41,24 +45,19 @@ or-symbols a b c d ha hb hc hd =
     let abc : bitOr ((4 * a + b) * 16) (c * 4) ≡ (16 * a + 4 * b + c) * 4 = or-shifted (4 * a + b) 4 (c * 4) (omega arith) ∙ omega arith in
     rw (ea, eb, ec, ab, abc) (or-shifted (16 * a + 4 * b + c) 2 d (omega arith) ∙ omega arith)
 
--- a byte in its place of a word
+-- a word shifted up
 abbrev up : ℕ → ℕ → ℕ
 up n x = (x * n) % 4294967296
-
--- the word of four bytes, the first the lowest
-pub or-bytes : (a b c d : ℕ) → a < 256 → b < 256 → c < 256 → d < 256 → bitOr (bitOr (bitOr a (up 256 b)) (up 65536 c)) (up 16777216 d) ≡ wordOf a b c d
-or-bytes a b c d ha hb hc hd =
-    let eb : up 256 b ≡ b * 256 = omega arith in
-    let ec : up 65536 c ≡ c * 65536 = omega arith in
-    let ed : up 16777216 d ≡ d * 16777216 = omega arith in
-    let ab : bitOr a (b * 256) ≡ b * 256 + a = or-shifted-r b 8 a ha in
-    let abc : bitOr (b * 256 + a) (c * 65536) ≡ c * 65536 + (b * 256 + a) = or-shifted-r c 16 (b * 256 + a) (omega arith) in
-    rw (eb, ec, ed, ab, abc) (or-shifted-r d 24 (c * 65536 + (b * 256 + a)) (omega arith) ∙ omega arith)
 
 -- the bytes of a word of four bytes
 module _ (w a b c d : ℕ) (is : w ≡ wordOf a b c d) where
   pub word-bytes : a < 256 → b < 256 → c < 256 → (w % 256 ≡ a) × (w / 256 % 256 ≡ b) × (w / 65536 % 256 ≡ c) × (w / 16777216 ≡ d)
   word-bytes ha hb hc = (omega arith, omega arith, omega arith, omega arith)
+
+-- the symbols of the word of four symbols from place i on
+pub word-symbols : (l : List ℕ) (i w : ℕ) → Below 4 l → i + 4 ≤ length l → w ≡ places.wordOf (take 4 (drop i l)) → (w % 256 ≡ getD l i 0) × (w / 256 % 256 ≡ getD l (i + 1) 0) × (w / 65536 % 256 ≡ getD l (i + 2) 0) × (w / 16777216 ≡ getD l (i + 3) 0)
+word-symbols l i w small h is =
+    word-bytes w (getD l i 0) (getD l (i + 1) 0) (getD l (i + 2) 0) (getD l (i + 3) 0) (omega (arith, word-four l i h)) (omega (arith, small i)) (omega (arith, small (i + 1))) (omega (arith, small (i + 2)))
 
 word-of : (w : ℕ) → wordOf (w % 256) (w / 256 % 256) (w / 65536 % 256) (w / 16777216) ≡ w
 word-of w = omega arith

@@ -1,8 +1,9 @@
 // Symbols and bytes, four symbols to a byte.
+use places::words::four_at;
 ghost use mathlib.Core.Path.{_≡_};
 ghost use mathlib.Core.List.{_++_};
-ghost use Prim.Native.Nat.{_+_, _*_, _/_, _%_, _<_, _≤_};
-ghost use lib.ListN.{length, getD, drop};
+ghost use Prim.Native.Nat.{_*_, _/_, _%_, _<_, _≤_};
+ghost use lib.ListN.{length, drop};
 ghost use Rattle.code.specs.Symbols.{Below, byteOf, symbols, bytes};
 ghost use Rattle.packing.specs.Words.{wordOf, Symbols};
 
@@ -30,24 +31,6 @@ fn spread(x: u8) -> u32
     let byte = x as u32;
     let halves = ((byte << 16) | (byte >> 4)) & 0x000F000F;
     ((halves << 8) | (halves >> 2)) & 0x03030303
-}
-
-// A byte as a word.
-fn wide(x: u8) -> u32
-    ensures { λ r. ⌜ r ≡ x ⌝ }
-{
-    x as u32
-}
-
-// Four symbols from place i on as one word, the first in its lowest byte.
-fn four_at(symbols: &[u8], i: usize) -> u32
-    requires { ⌜ i + 4 ≤ length (now symbols) ⌝ }
-    ensures { λ r. do let s = now (symbols .entry) in ⌜ r ≡ wordOf (getD s i 0) (getD s (i + 1) 0) (getD s (i + 2) 0) (getD s (i + 3) 0) ⌝ }
-{
-    wide(symbols[i])
-        | (wide(symbols[i + 1]) << 8)
-        | (wide(symbols[i + 2]) << 16)
-        | (wide(symbols[i + 3]) << 24)
 }
 
 // The symbols of bytes, four to a byte, at the front of `out`.

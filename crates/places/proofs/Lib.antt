@@ -1,3 +1,3 @@
 pub mod TestsAtPlaces
 pub mod SignedOffsets
-pub mod EightBytes
+pub mod Bytes

@@ -3,8 +3,9 @@ use mathlib.Core.Path.{_≡_, refl, sym, _∙_}
 use mathlib.Core.Bool.{Bool, true, false, cond}
 use mathlib.Core.List.{List}
 use mathlib.Core.Logic.{⊎-elim}
-use Prim.Native.Nat.{ℕ, suc, _+_, _*_, _≤_, _<_}
-use native.Mathlib.Nat.{eq-or-lt-of-le, one-mul, zero-mul}
+use Prim.Native.Nat.{ℕ, suc, _+_, _≤_, _<_}
+use native.Mathlib.Nat.{eq-or-lt-of-le}
+use native.Mathlib.Numerals.{add-one}
 use native.Mathlib.Omega.{arith}
 use lib.ListN.{length, getD, drop, length-drop}
 use Rattle.code.specs.Layers.{Word, bit, layer, digit, ones}
@@ -31,11 +32,6 @@ module _ (s : ℕ) (m : List ℕ) (i n : ℕ) (inside : i < length m) (read : n 
 pub ones-few : (s : ℕ) (m : List ℕ) (i o : ℕ) → o ≡ ones (drop i (layer s m)) → o ≤ length m
 ones-few s m i o e = omega (arith, ones-le (drop i (layer s m)), length-drop i (layer s m), length-layer s m)
 
--- a bit's number times n
-pub digit-times : (b : Bool) (n : ℕ) → digit b * n ≡ cond b n 0
-digit-times true n = one-mul n
-digit-times false n = zero-mul n
-
 -- no bit left out at place i or behind takes d from the sum; o ones stand from i on
 pub record MoreTried (r : Word) (d i o : ℕ) : Type 0 where
   pub counted : o ≡ ones (drop i r)
@@ -59,24 +55,33 @@ module _ (s : ℕ) (m : List ℕ) (d : ℕ) where
   pub more-begin : MoreTried (layer s m) d (length m) 0
   more-begin = record { counted = sym (no-ones s m); tried = λ j l h e. omega (arith, length-layer s m) }
 
-  -- place j is next: b is its bit, and n counts it from 1
-  module _ (i j o b n : ℕ) (next : i ≡ suc j) (place : n ≡ suc j) (inside : j < length m) (read : b ≡ digit (bit s (getD m j 0))) where
-    pub more-loss : MoreTried (layer s m) d i o → o + b * n ≡ ones (drop (suc j) (layer s m)) + cond (getD (layer s m) j false) (suc j) 0
-    more-loss t =
-        let c : o ≡ ones (drop (suc j) (layer s m)) = t .counted ∙ rw next in
-        rw (layer-at s m j inside, ← digit-times (bit s (getD m j 0)) (suc j), ← c, ← read, ← place)
+  -- place j is next, and b is its bit
+  module _ (i j o b : ℕ) (next : i ≡ suc j) (inside : j < length m) (read : b ≡ digit (bit s (getD m j 0))) where
+    -- p is what the place adds
+    module _ (p : ℕ) (adds : p ≡ cond (bit s (getD m j 0)) (j + 1) 0) (t : MoreTried (layer s m) d i o) where
+      pub more-few : o + p ≤ length m + length m
+      more-few = go (bit s (getD m j 0)) adds
+        where
+          go : (x : Bool) → p ≡ cond x (j + 1) 0 → o + p ≤ length m + length m
+          go true e = omega (arith, ones-few s m i o (t .counted))
+          go false e = omega (arith, ones-few s m i o (t .counted))
 
-    pub more-turn : MoreTried (layer s m) d i o → (o + b * n ≡ d → ⊥) → MoreTried (layer s m) d j (o + b)
-    more-turn t misses =
-        let c : o ≡ ones (drop (suc j) (layer s m)) = t .counted ∙ rw next in
-        record {
-          counted = omega (arith, ones-step s m j inside);
-          tried = λ k l f g.
-              ⊎-elim
-              (λ (q : j ≡ k). misses (more-loss t ∙ rw q g))
-              (λ (q : j < k). t .tried k (omega arith) f g)
-              (eq-or-lt-of-le l);
-        }
+      behind : o ≡ ones (drop (suc j) (layer s m))
+      behind = t .counted ∙ rw next
+
+      pub more-loss : o + p ≡ ones (drop (suc j) (layer s m)) + cond (getD (layer s m) j false) (suc j) 0
+      more-loss = rw (layer-at s m j inside, ← behind, ← add-one j, ← adds)
+
+      pub more-turn : (o + p ≡ d → ⊥) → MoreTried (layer s m) d j (o + b)
+      more-turn misses =
+          record {
+            counted = omega (arith, behind, ones-step s m j inside);
+            tried = λ k l f g.
+                ⊎-elim
+                (λ (q : j ≡ k). misses (more-loss ∙ rw q g))
+                (λ (q : j < k). t .tried k (omega arith) f g)
+                (eq-or-lt-of-le l);
+          }
 
     pub less-turn : LessTried (layer s m) d i o → (o ≡ d → ⊥) → (o + i + 1 ≡ d → ⊥) → LessTried (layer s m) d j (o + b)
     less-turn t misses misses′ =

@@ -14,7 +14,7 @@ use lib.ListN.{length, getD, set}
 use Rattle.code.specs.Repair.{putIn, leaveOut}
 use Rattle.code.specs.Edits.{same, firstEdit, judged}
 use Rattle.code.specs.laws.Edits.{same-refl, same-true}
-use Rattle.code.specs.declared.Edit.the-variants.{None, Sub, Del, Ins}
+use Rattle.code.specs.declared.Edit.the-variants.{Sub, Del, Ins}
 
 -- no edit that is tried at place j turns w into v
 pub record Misses (w v : List ℕ) (j : ℕ) : Type 0 where

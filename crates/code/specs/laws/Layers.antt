@@ -102,6 +102,10 @@ unfolding sumOfPlaces sumFrom ones
 sum-cons true w = omega (arith, sumFrom-suc 1 w)
 sum-cons false w = omega (arith, sumFrom-suc 1 w)
 
+-- a symbol put before others adds to each layer's sum of places the number of ones in the longer layer
+pub sum-before : (s x : ℕ) (m : List ℕ) → sumOfPlaces (layer s (x ∷ m)) ≡ sumOfPlaces (layer s m) + ones (layer s (x ∷ m))
+sum-before s x m = sum-cons (bit s x) (layer s m)
+
 -- a sum of at most n places, each at most n
 pub sum-le : (n : ℕ) (w : Word) → length w ≤ n → sumOfPlaces w ≤ n * length w
 unfolding sumOfPlaces sumFrom

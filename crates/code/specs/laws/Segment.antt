@@ -1,8 +1,8 @@
 -- Laws of a written segment, in the order of the definitions.
-use mathlib.Core.Path.{_≡_, refl, sym, _∙_}
+use mathlib.Core.Path.{_≡_, refl, sym, ap, _∙_}
 use mathlib.Core.Bool.{Bool, true, false, cond, _||_}
 use mathlib.Core.List.{List, [], _∷_, _++_}
-use Prim.Native.Nat.{ℕ, zero, suc, _+_, _-_, _*_, _%_, _^_, _≤_, _<_}
+use Prim.Native.Nat.{ℕ, zero, suc, _+_, _-_, _*_, _/_, _%_, _^_, _≤_, _<_}
 use native.Mathlib.Nat.{mod-lt}
 use native.Mathlib.Omega.{arith}
 use borrow.Author.Tests.{eqb-true, eqb-false}
@@ -11,13 +11,27 @@ use lib.ListN.{length, getD, take, drop, length-append}
 use lib.Seq.{split-at, drop-length, length-take-le}
 use Rattle.code.specs.Symbols.{Below}
 use Rattle.code.specs.laws.Below.{below-append}
-use Rattle.code.specs.Layers.{layer, syndrome, width, bits}
-use Rattle.code.specs.laws.Layers.{length-bits, length-pair, pair-below, width-least}
+use Rattle.code.specs.Layers.{bit, layer, digit, ones, syndrome, width, bits}
+use Rattle.code.specs.laws.Layers.{digit-bit, length-bits, length-pair, pair-below, width-least}
 use Rattle.code.specs.Segment.{total, check, either, sep, syndromeOf, separator, marker, block, segment, lastOf, size}
 
 pub check-below : (m : List ℕ) → check m < 4
 unfolding check
 check-below m = mod-lt (total m) (omega arith)
+
+-- the check is formed of the numbers of ones of both layers
+pub check-ones : (m : List ℕ) → check m ≡ (ones (layer 0 m) + 2 * ones (layer 1 m)) % 4
+unfolding check total ones
+check-ones [] = refl
+check-ones (x ∷ m) =
+    sums x (digit (bit 0 x) + 2 * digit (bit 1 x)) (total m) (ones (layer 0 m) + 2 * ones (layer 1 m)) (rw (digit-bit 0 x, digit-bit 1 x) (two-bits x)) (check-ones m)
+    ∙ ap (λ (n : ℕ). n % 4) (omega arith)
+  where
+    two-bits : (x : ℕ) → x % 4 ≡ x / 1 % 2 + 2 * (x / 2 % 2)
+    two-bits x = omega arith
+
+    sums : (x y t u : ℕ) → x % 4 ≡ y → t % 4 ≡ u % 4 → (x + t) % 4 ≡ (y + u) % 4
+    sums x y t u e f = omega arith
 
 -- Sep is none of its arguments
 pub record Apart (s a b c : ℕ) : Type 0 where

@@ -3,7 +3,7 @@ use mathlib.Core.Path.{_≡_, sym, _∙_}
 use Prim.Native.Nat.{_+_, _-_, min, _≤_}
 use native.Mathlib.Omega.{arith}
 use lib.ListN.{length, drop}
-use Rattle.places.proofs.EightBytes.{bytes-below}
+use Rattle.places.proofs.Bytes.{bytes-below}
 use Rattle.edits.specs.Judgement.{common}
 use Rattle.edits.proofs.SharedFront.{common-turn, common-stop, common-end, common-words}
 use Rattle.edits.proofs.first_difference.Statement.{statement}

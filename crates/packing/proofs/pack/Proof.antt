@@ -6,7 +6,7 @@ use lib.ListN.{length, take, drop, length-set}
 use Rattle.code.specs.laws.Lists.{write-all}
 use Rattle.code.specs.Symbols.{bytes}
 use Rattle.code.specs.laws.Symbols.{length-bytes}
-use Rattle.packing.proofs.Words.{word-bytes}
+use Rattle.packing.proofs.Words.{word-symbols}
 use Rattle.packing.proofs.Loops.{pack-step}
 use Rattle.packing.proofs.pack.Statement.{statement}
 use Rattle.packing.proofs.pack.Tie as tie
@@ -21,7 +21,7 @@ pack-word-requires : tie.Need-pack-word-requires Inv-loop μ-loop
 pack-word-requires c κs =
     let small = c .before .before .before .before .before .pre .0 in
     let j = 4 * c .before .before .loop .i in
-    let w = word-bytes (c .four-at .result) _ _ _ _ (c .four-at .ensures) (omega (arith, small j)) (omega (arith, small (j + 1))) (omega (arith, small (j + 2))) in
+    let w = word-symbols (c .before .before .before .before .before .args .symbols .now) j (c .four-at .result) small (omega arith) (c .four-at .ensures) in
     (rw (w .0) (small j), rw (w .1) (small (j + 1)), rw (w .2) (small (j + 2)), rw (w .3) (small (j + 3)))
 
 loop-again : tie.Need-loop-again Inv-loop μ-loop
@@ -29,8 +29,7 @@ loop-again c =
     let l = c .before .before .before .loop in
     let a = c .before .before .before .before .before .before .args in
     let small = c .before .before .before .before .before .before .pre .0 in
-    let j = 4 * l .i in
-    let w = word-bytes (c .before .four-at .result) _ _ _ _ (c .before .four-at .ensures) (omega (arith, small j)) (omega (arith, small (j + 1))) (omega (arith, small (j + 2))) in (
+    let w = word-symbols (a .symbols .now) (4 * l .i) (c .before .four-at .result) small (omega arith) (c .before .four-at .ensures) in (
       omega arith,
       simp length-set (l .inv .1),
       rw (c .pack-word .ensures, w .0, w .1, w .2, w .3, l .inv .2) (pack-step (a .symbols .now) (a .out .now) (l .i) (omega arith) (omega arith)),

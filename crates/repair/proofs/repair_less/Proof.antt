@@ -66,4 +66,4 @@ repair-less-spec =
     (λ c.
     let a = c .before .before .before .before .before .before .before .before .before .args in
     let l = c .before .before .before .before .before .loop in
-    (omega arith, less-turn (a .shift) (a .symbols .now) (c .before .before .before .before .before .before .ahead-of .result) (l .i) (l .i - 1) (l .ones) (c .digit-of .result) (l .i - 1 + 1) (omega arith) (omega arith) (omega arith) (c .digit-of .ensures .0) (l .inv .1) (c .before .before .before .before .if2 .left) (c .before .before .before .if3 .left))))
+    (omega arith, less-turn (a .shift) (a .symbols .now) (c .before .before .before .before .before .before .ahead-of .result) (l .i) (l .i - 1) (l .ones) (c .digit-of .result) (omega arith) (omega arith) (c .digit-of .ensures .0) (l .inv .1) (c .before .before .before .before .if2 .left) (c .before .before .before .if3 .left))))

@@ -1,5 +1,5 @@
 use mathlib.Core.Path.{sym, _∙_}
-use Prim.Native.Nat.{_+_, _-_, _≤_}
+use Prim.Native.Nat.{_-_, _≤_}
 use native.Mathlib.Omega.{arith}
 use lib.Dec.{eqb}
 use lib.ListN.{length}
@@ -8,8 +8,7 @@ use Rattle.code.specs.laws.Layers.{length-layer}
 use Rattle.code.specs.Repair.{mended}
 use Rattle.code.specs.laws.Repair.{repair-overlarge}
 use Rattle.code.specs.declared.Link.the-variants.{More}
-use Rattle.layers.proofs.Ones.{product-le}
-use Rattle.repair.proofs.TriedPlaces.{MoreTried, more-begin, more-turn, more-loss, ones-few}
+use Rattle.repair.proofs.TriedPlaces.{MoreTried, more-begin, more-few, more-loss, more-turn, ones-few}
 use Rattle.repair.proofs.Repairs.{more-found, more-none}
 use Rattle.repair.proofs.repair_more.Statement.{statement}
 use Rattle.repair.proofs.repair_more.Tie as tie
@@ -40,22 +39,29 @@ repair-more-spec =
     (λ c. omega arith)
     (λ c κs. c .before .before .before .before .before .before .pre .0)
     (λ c. omega arith)
-    (λ c. omega (arith, product-le _ (c .before .before .before .loop .i - 1 + 1) (c .digit-of .ensures .1)))
-    (λ c. omega (arith, ones-few (c .before .before .before .before .before .before .before .args .shift) (c .before .before .before .before .before .before .before .args .symbols .now) (c .before .before .before .loop .i) (c .before .before .before .loop .ones) (c .before .before .before .loop .inv .1 .counted), product-le _ (c .before .before .before .loop .i - 1 + 1) (c .digit-of .ensures .1)))
+    (λ c. omega arith)
+    (λ c κs. c .before .before .before .before .before .before .before .before .pre .0)
     (λ c.
-    let a = c .before .before .before .before .before .before .before .before .args in
+    let a = c .before .before .before .before .before .before .before .before .before .args in
+    let l = c .before .before .before .before .before .loop in
+    let b = c .before .before .digit-of in
+    omega (arith, more-few (a .shift) (a .symbols .now) (c .before .before .before .before .before .before .ahead-of .result) (l .i) (l .i - 1) (l .ones) (b .result) (omega arith) (omega arith) (b .ensures .0) _ (c .place-of .ensures) (l .inv .1)))
+    (λ c.
+    let a = c .before .before .before .before .before .before .before .before .before .before .args in
     let m = a .symbols .now in
-    let l = c .before .before .before .before .loop in
+    let d = c .before .before .before .before .before .before .before .ahead-of in
+    let l = c .before .before .before .before .before .before .loop in
+    let b = c .before .before .before .digit-of in
     let n = length-layer (a .shift) m in
-    more-found (layer (a .shift) m) (length m - 1) (a .sum) (a .written) (c .before .before .before .before .before .ahead-of .result) (omega arith) (omega arith) (c .before .before .before .before .before .before .before .before .pre .3) (c .before .before .before .before .before .before .if1 .left) (c .before .before .before .before .before .ahead-of .ensures) (l .i - 1) (eqb (c .before .digit-of .result) 1) (omega arith)
-    (sym (more-loss (a .shift) m (c .before .before .before .before .before .ahead-of .result) (l .i) (l .i - 1) (l .ones) (c .before .digit-of .result) (l .i - 1 + 1) (omega arith) (omega arith) (omega arith) (c .before .digit-of .ensures .0) (l .inv .1)) ∙ c .if2 .taken))
-    (λ c. omega (arith, ones-few (c .before .before .before .before .before .before .before .before .args .shift) (c .before .before .before .before .before .before .before .before .args .symbols .now) (c .before .before .before .before .loop .i) (c .before .before .before .before .loop .ones) (c .before .before .before .before .loop .inv .1 .counted)))
+    more-found (layer (a .shift) m) (length m - 1) (a .sum) (a .written) (d .result) (omega arith) (omega arith) (c .before .before .before .before .before .before .before .before .before .before .pre .3) (c .before .before .before .before .before .before .before .before .if1 .left) (d .ensures) (l .i - 1) (eqb (b .result) 1) (omega arith)
+    (sym (more-loss (a .shift) m (d .result) (l .i) (l .i - 1) (l .ones) (b .result) (omega arith) (omega arith) (b .ensures .0) _ (c .before .place-of .ensures) (l .inv .1)) ∙ c .if2 .taken))
+    (λ c. let l = c .before .before .before .before .before .before .loop in let a = c .before .before .before .before .before .before .before .before .before .before .args in omega (arith, ones-few (a .shift) (a .symbols .now) (l .i) (l .ones) (l .inv .1 .counted)))
     (λ c. omega arith)
     (λ c.
-    let a = c .before .before .before .before .before .before .before .before .args in
-    let m = a .symbols .now in
-    let l = c .before .before .before .before .loop in
-    (omega arith, more-turn (a .shift) m (c .before .before .before .before .before .ahead-of .result) (l .i) (l .i - 1) (l .ones) (c .before .digit-of .result) (l .i - 1 + 1) (omega arith) (omega arith) (omega arith) (c .before .digit-of .ensures .0) (l .inv .1) (c .if2 .left)))
+    let a = c .before .before .before .before .before .before .before .before .before .before .args in
+    let l = c .before .before .before .before .before .before .loop in
+    let b = c .before .before .before .digit-of in
+    (omega arith, more-turn (a .shift) (a .symbols .now) (c .before .before .before .before .before .before .before .ahead-of .result) (l .i) (l .i - 1) (l .ones) (b .result) (omega arith) (omega arith) (b .ensures .0) _ (c .before .place-of .ensures) (l .inv .1) (c .if2 .left)))
     (λ c.
     let a = c .before .before .before .before .before .args in
     let m = a .symbols .now in

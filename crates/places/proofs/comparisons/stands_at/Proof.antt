@@ -3,7 +3,7 @@ use Prim.Native.Nat.{_+_, _-_, _≤_}
 use native.Mathlib.Omega.{arith}
 use lib.ListN.{length, drop}
 use Rattle.code.specs.Reading.{isPrefix}
-use Rattle.places.proofs.EightBytes.{bytes-below}
+use Rattle.places.proofs.Bytes.{bytes-below}
 use Rattle.places.proofs.TestsAtPlaces.{block-past, block-begin, block-turn, block-stop, block-end, words-turn, words-stop}
 use Rattle.places.proofs.comparisons.stands_at.Statement.{statement}
 use Rattle.places.proofs.comparisons.stands_at.Tie as tie

@@ -1,6 +1,6 @@
 use native.Mathlib.Omega.{arith}
 use borrow.Author.Needs.{needs}
-use Rattle.places.proofs.EightBytes.{eight, word-eight}
+use Rattle.places.proofs.Bytes.{eight, word-eight}
 use Rattle.places.proofs.words.eight_at.Statement.{statement}
 use Rattle.places.proofs.words.eight_at.Tie as tie
 
