@@ -36,34 +36,41 @@ small x y =
 
 -- lanes under the mask of each half's lower lane, with other lanes one further
 module _ (p q r s p' q' r' s' : ℕ) (p16 : p + q' < 65536) (q16 : q + r' < 65536) (r16 : r + s' < 65536) (p'16 : p' < 65536) (q'16 : q' < 65536) (r'16 : r' < 65536) where
-  pub fold-lanes : bitAnd (lanes p q r s + lanes p' q' r' s' / 65536) 281470681808895 ≡ p + q' + half * (r + s')
+  fold-lanes : bitAnd (lanes p q r s + lanes p' q' r' s' / 65536) 281470681808895 ≡ p + q' + half * (r + s')
   fold-lanes =
       let e : lanes p q r s + lanes q' r' s' 0 ≡ lanes (p + q') (q + r') (r + s') s = omega arith in
       rw (next-lanes p' q' r' s' p'16 q'16 r'16, e) (low-lanes (p + q') (q + r') (r + s') s p16 q16 r16)
 
+-- each of four numbers is a byte
+pub record Bytes (a b c d : ℕ) : Type 0 where
+  pub first : a < 256
+  pub second : b < 256
+  pub third : c < 256
+  pub fourth : d < 256
+
 -- a word of eight bytes
-module _ (a b c d e f g h : ℕ) (a8 : a < 256) (b8 : b < 256) (c8 : c < 256) (d8 : d < 256) (e8 : e < 256) (f8 : f < 256) (g8 : g < 256) (h8 : h < 256) where
+module _ (a b c d e f g h : ℕ) (k : Bytes a b c d) (l : Bytes e f g h) where
   abbrev eight : ℕ
   eight = lanes (b * 256 + a) (d * 256 + c) (f * 256 + e) (h * 256 + g)
 
   even-lanes : evens eight ≡ lanes a c e g
   even-lanes =
-      let p : (b * 256 + a) % 256 ≡ a = omega arith in
-      let q : (d * 256 + c) % 256 ≡ c = omega arith in
-      let r : (f * 256 + e) % 256 ≡ e = omega arith in
-      let s : (h * 256 + g) % 256 ≡ g = omega arith in
-      even-bytes (b * 256 + a) (d * 256 + c) (f * 256 + e) (h * 256 + g) (omega arith) (omega arith) (omega arith) ∙ rw (p, q, r, s)
+      let p : (b * 256 + a) % 256 ≡ a = omega (arith, k) in
+      let q : (d * 256 + c) % 256 ≡ c = omega (arith, k) in
+      let r : (f * 256 + e) % 256 ≡ e = omega (arith, l) in
+      let s : (h * 256 + g) % 256 ≡ g = omega (arith, l) in
+      even-bytes (b * 256 + a) (d * 256 + c) (f * 256 + e) (h * 256 + g) (omega (arith, k)) (omega (arith, k, l)) (omega (arith, l)) ∙ rw (p, q, r, s)
 
   odd-lanes : odds eight ≡ lanes b d f h
   odd-lanes =
-      let down : eight / 256 ≡ lanes (c * 256 + b) (e * 256 + d) (g * 256 + f) h = omega arith in
-      let p : (c * 256 + b) % 256 ≡ b = omega arith in
-      let q : (e * 256 + d) % 256 ≡ d = omega arith in
-      let r : (g * 256 + f) % 256 ≡ f = omega arith in
-      let s : h % 256 ≡ h = omega arith in
-      rw down (even-bytes (c * 256 + b) (e * 256 + d) (g * 256 + f) h (omega arith) (omega arith) (omega arith) ∙ rw (p, q, r, s))
+      let down : eight / 256 ≡ lanes (c * 256 + b) (e * 256 + d) (g * 256 + f) h = omega (arith, k, l) in
+      let p : (c * 256 + b) % 256 ≡ b = omega (arith, k) in
+      let q : (e * 256 + d) % 256 ≡ d = omega (arith, k) in
+      let r : (g * 256 + f) % 256 ≡ f = omega (arith, l) in
+      let s : h % 256 ≡ h = omega (arith, l) in
+      rw down (even-bytes (c * 256 + b) (e * 256 + d) (g * 256 + f) h (omega (arith, k)) (omega (arith, k, l)) (omega (arith, l)) ∙ rw (p, q, r, s))
 
-  pub pair-lanes : evens eight + odds eight ≡ lanes (a + b) (c + d) (e + f) (g + h)
+  pair-lanes : evens eight + odds eight ≡ lanes (a + b) (c + d) (e + f) (g + h)
   pair-lanes = rw (even-lanes, odd-lanes) (omega arith)
 
 -- the bytes of a number below 2 ^ 32
@@ -92,13 +99,6 @@ by-bytes w h = joined _ _ _ _ (w / half) (w % half) w (quad (w % half) (mod-lt w
 byte : (x : ℕ) → x % 256 < 256
 byte x = mod-lt x (omega arith)
 
--- each of four numbers is a byte
-pub record Bytes (a b c d : ℕ) : Type 0 where
-  pub first : a < 256
-  pub second : b < 256
-  pub third : c < 256
-  pub fourth : d < 256
-
 bytes-of : (v : ℕ) → Bytes (byte0 v) (byte1 v) (byte2 v) (byte3 v)
 bytes-of v = record { first = byte v; second = byte (v / 256); third = byte (v / 256 / 256); fourth = byte (v / 256 / 256 / 256) }
 
@@ -109,19 +109,14 @@ pairs v = evens v + odds v
 abbrev pub sums : ℕ → ℕ → ℕ
 sums v w = 4 * pairs w + pairs v + odds v
 
--- the bytes of two words
+-- the ones of all columns
 module _ (a b c d e f g h : ℕ) (k : Bytes a b c d) (l : Bytes e f g h) where
-  pair-of : pairs (lanes (b * 256 + a) (d * 256 + c) (f * 256 + e) (h * 256 + g)) ≡ lanes (a + b) (c + d) (e + f) (g + h)
-  pair-of = pair-lanes a b c d e f g h (k .first) (k .second) (k .third) (k .fourth) (l .first) (l .second) (l .third) (l .fourth)
-
-  odd-of : odds (lanes (b * 256 + a) (d * 256 + c) (f * 256 + e) (h * 256 + g)) ≡ lanes b d f h
-  odd-of = odd-lanes a b c d e f g h (k .first) (k .second) (k .third) (k .fourth) (l .first) (l .second) (l .third) (l .fourth)
-
   all-ones : bitAnd (lanes (a + b) (c + d) (e + f) (g + h) + lanes (a + b) (c + d) (e + f) (g + h) / 65536) 281470681808895 ≡ (a + (b + (c + (d + 0)))) + half * (e + (f + (g + (h + 0))))
   all-ones =
       fold-lanes (a + b) (c + d) (e + f) (g + h) (a + b) (c + d) (e + f) (g + h) (omega (arith, k, l)) (omega (arith, k, l)) (omega (arith, k, l)) (omega (arith, k, l)) (omega (arith, k, l)) (omega (arith, k, l))
       ∙ omega arith
 
+-- the sum of their places, with the ones behind the rows
 module _ (a b c d e f g h p q r s t u v w : ℕ) (k : Bytes a b c d) (l : Bytes e f g h) (m : Bytes p q r s) (n : Bytes t u v w) where
   abbrev sum-lanes : ℕ
   sum-lanes = lanes (4 * (p + q) + (a + b) + b) (4 * (r + s) + (c + d) + d) (4 * (t + u) + (e + f) + f) (4 * (v + w) + (g + h) + h)
@@ -157,10 +152,10 @@ module _ (a b c d e f g h p q r s t u v w : ℕ) (k : Bytes a b c d) (l : Bytes 
   -- the bytes of both words
   module _ (x y : ℕ) (x-is : x ≡ lanes (b * 256 + a) (d * 256 + c) (f * 256 + e) (h * 256 + g)) (y-is : y ≡ lanes (q * 256 + p) (s * 256 + r) (u * 256 + t) (w * 256 + v)) where
     pair-ones : bitAnd (pairs x + pairs x / 65536) 281470681808895 ≡ (a + (b + (c + (d + 0)))) + half * (e + (f + (g + (h + 0))))
-    pair-ones = rw (x-is, pair-of a b c d e f g h k l) (all-ones a b c d e f g h k l)
+    pair-ones = rw (x-is, pair-lanes a b c d e f g h k l) (all-ones a b c d e f g h k l)
 
     pair-places : bitAnd (sums x y + (sums x y + 2 * pairs x) / 65536) 281470681808895 ≡ (4 * (p + (q + (r + (s + 0)))) + (a + 2 * b + 3 * c + 4 * d)) + half * (4 * (t + (u + (v + (w + 0)))) + (e + 2 * f + 3 * g + 4 * h))
-    pair-places = rw (x-is, y-is, pair-of a b c d e f g h k l, pair-of p q r s t u v w m n, odd-of a b c d e f g h k l, sum-of, more-of) all-places
+    pair-places = rw (x-is, y-is, pair-lanes a b c d e f g h k l, pair-lanes p q r s t u v w m n, odd-lanes a b c d e f g h k l, sum-of, more-of) all-places
 
 -- four running sums from the right
 run-four : (a b c d : ℕ) → a + 2 * b + 3 * c + 4 * d ≡ fromRight (a ∷ b ∷ c ∷ d ∷ [])

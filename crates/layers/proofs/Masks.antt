@@ -1,13 +1,15 @@
 -- Masks on words.
---   low-bits      the lowest bit of each byte, in each half
---   even-bytes    every other byte, in lanes of 16 bits
---   low-lanes     the lowest lane of each half
---   spread-bits   a word of four bytes joined to itself above them, under the mask of lowest bits
+--   joined-bits   a word of four bytes joined to itself above them, under the mask of lowest bits
+--   lanes         four lanes of 16 bits
+--   even-bytes    every other byte
+--   low-lanes     the lower lane of each half
+--   next-lanes    the lanes one further
 use mathlib.Core.Path.{_≡_, refl, sym, ap, _∙_}
-use mathlib.Core.List.{_∷_}
+use mathlib.Core.List.{[], _∷_}
 use Prim.Native.Nat.{ℕ, zero, suc, _+_, _-_, _*_, _/_, _%_, _<_}
 use native.Mathlib.Nat.{div-add-mod', mod-lt}
 use native.Mathlib.Omega.{arith}
+use lib.Arith.{mod-mul}
 use lib.Dec.{eqb}
 use lib.Bits.{bitAnd, bitOr, and-mask, and-block, and-zero-r, or-mod, or-shr, or-zero-l, or-zero-r}
 use Rattle.code.specs.Layers.{bit, layer, digit}
@@ -58,37 +60,34 @@ halved (suc n) v =
     let rest : layer 0 (bytesOf n (v / 2 / 256)) ≡ layer 1 (bytesOf n (v / 256)) = rw t (halved n (v / 256)) in
     λ i. eqb (h i) 1 ∷ rest i
 
+-- numbers that agree modulo 256m have one lowest byte, and agree modulo m above it
+byte-agrees : (m x y : ℕ) → 0 < m → x % (m * 256) ≡ y % (m * 256) → (x % 256 ≡ y % 256) × (x / 256 % m ≡ y / 256 % m)
+byte-agrees m x y h e =
+    let f = sym (mod-mul x h (omega arith)) ∙ e ∙ mod-mul y h (omega arith) in
+    (lower _ _ _ _ (mod-lt x (omega arith)) (mod-lt y (omega arith)) f, upper _ _ _ _ (mod-lt x (omega arith)) (mod-lt y (omega arith)) f)
+  where
+    lower : (p q r s : ℕ) → r < 256 → s < 256 → p * 256 + r ≡ q * 256 + s → r ≡ s
+    lower p q r s hr hs e = omega arith
+
+    upper : (p q r s : ℕ) → r < 256 → s < 256 → p * 256 + r ≡ q * 256 + s → p ≡ q
+    upper p q r s hr hs e = omega arith
+
 -- numbers that agree below bit 31 have the same lowest bits
 same-bits : (v w : ℕ) → v % 2147483648 ≡ w % 2147483648 → layer 0 (bytesOf 4 v) ≡ layer 0 (bytesOf 4 w)
 unfolding bytesOf
 same-bits v w e =
-    let e1 : v / 256 % 8388608 ≡ w / 256 % 8388608 = omega arith in
-    let e2 : v / 256 / 256 % 32768 ≡ w / 256 / 256 % 32768 = next-15 (v / 256) (w / 256) e1 in
-    let e3 : v / 256 / 256 / 256 % 128 ≡ w / 256 / 256 / 256 % 128 = next-7 (v / 256 / 256) (w / 256 / 256) e2 in
-    let a : v % 256 / 1 % 2 ≡ w % 256 / 1 % 2 = omega (arith, e) in
-    let b = bit-23 (v / 256) (w / 256) e1 in
-    let c = bit-15 (v / 256 / 256) (w / 256 / 256) e2 in
-    let d = bit-7 (v / 256 / 256 / 256) (w / 256 / 256 / 256) e3 in
-    λ i. eqb (a i) 1 ∷ eqb (b i) 1 ∷ eqb (c i) 1 ∷ eqb (d i) 1 ∷ layer 0 (bytesOf 0 v)
+    let a = byte-agrees 8388608 v w (omega arith) e in
+    let b = byte-agrees 32768 (v / 256) (w / 256) (omega arith) (a .1) in
+    let c = byte-agrees 128 (v / 256 / 256) (w / 256 / 256) (omega arith) (b .1) in
+    let d = last-bit (v / 256 / 256 / 256) (w / 256 / 256 / 256) (c .1) in
+    λ i. bit 0 (a .0 i) ∷ bit 0 (b .0 i) ∷ bit 0 (c .0 i) ∷ eqb (d i) 1 ∷ []
   where
-    next-15 : (x y : ℕ) → x % 8388608 ≡ y % 8388608 → x / 256 % 32768 ≡ y / 256 % 32768
-    next-15 x y h = omega arith
-
-    next-7 : (x y : ℕ) → x % 32768 ≡ y % 32768 → x / 256 % 128 ≡ y / 256 % 128
-    next-7 x y h = omega arith
-
-    bit-23 : (x y : ℕ) → x % 8388608 ≡ y % 8388608 → x % 256 / 1 % 2 ≡ y % 256 / 1 % 2
-    bit-23 x y h = omega arith
-
-    bit-15 : (x y : ℕ) → x % 32768 ≡ y % 32768 → x % 256 / 1 % 2 ≡ y % 256 / 1 % 2
-    bit-15 x y h = omega arith
-
-    bit-7 : (x y : ℕ) → x % 128 ≡ y % 128 → x % 256 / 1 % 2 ≡ y % 256 / 1 % 2
-    bit-7 x y h = omega arith
+    last-bit : (x y : ℕ) → x % 128 ≡ y % 128 → x % 256 / 1 % 2 ≡ y % 256 / 1 % 2
+    last-bit x y h = omega arith
 
 -- the bits of both layers of the bytes of a word
-pub spread-bits : (w : ℕ) → w < half → bitAnd (bitOr w ((w * 2147483648) % 18446744073709551616)) 72340172838076673 ≡ sides bitBytes (bytesOf 4 w)
-spread-bits w h =
+pub joined-bits : (w : ℕ) → w < half → bitAnd (bitOr w ((w * 2147483648) % 18446744073709551616)) 72340172838076673 ≡ sides bitBytes (bytesOf 4 w)
+joined-bits w h =
     let u : (w * 2147483648) % 18446744073709551616 ≡ w * 2147483648 = omega arith in
     let up : bitOr w (w * 2147483648) / half ≡ w / 2 = or-shr w (w * 2147483648) 32 ∙ rw (upper-first, upper-second) (or-zero-l (w / 2)) in
     let low : bitOr w (w * 2147483648) % 2147483648 ≡ w % 2147483648 = or-mod w (w * 2147483648) 31 ∙ rw lower-second (or-zero-r (w % 2147483648)) in

@@ -55,7 +55,7 @@ pub fn place_of(symbol: u8, shift: u8, place: usize) -> usize
 }
 
 // The bits of both layers of the bytes of a word, a byte each: the low layer's in the lower half, the high layer's in the upper half.
-fn spread(word: u64) -> u64
+fn layer_bits(word: u64) -> u64
     requires { ⌜ word < half ⌝ }
     ensures { λ r. ⌜ r ≡ sides bitBytes (bytesOf 4 word) ⌝ }
 {
@@ -67,7 +67,7 @@ fn row_at(symbols: &[u8], i: usize) -> u64
     requires { ⌜ i + 4 ≤ length (now symbols) ⌝ }
     ensures { λ r. ⌜ r ≡ sides bitBytes (take 4 (drop i (now (symbols .entry)))) ⌝ }
 {
-    spread(four_at(symbols, i) as u64)
+    layer_bits(four_at(symbols, i) as u64)
 }
 
 // The numbers of ones and the sums of places that columns of four add up to: `ones` has the ones of each column, and `behind`, for each, the
@@ -125,7 +125,7 @@ pub fn sums(symbols: &[u8]) -> Summed
     let mut places = block.places;
     while 0 < i {
         i -= 1;
-        let bits = spread(symbols[i] as u64);
+        let bits = layer_bits(symbols[i] as u64);
         ones += bits;
         places += ones;
     }

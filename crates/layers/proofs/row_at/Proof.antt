@@ -30,4 +30,4 @@ row-at-spec =
     (λ c.
     let a = c .before .before .before .args in
     let e = four-bytes (a .symbols .now) (a .i) (c .before .before .before .pre) (bytes-below (a .symbols .now) (c .before .before .shared-slice-known .given)) in
-    c .spread .ensures ∙ rw (c .before .four-at .ensures, e)))
+    c .layer-bits .ensures ∙ rw (c .before .four-at .ensures, e)))

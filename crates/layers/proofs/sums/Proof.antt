@@ -36,12 +36,12 @@ sums-spec =
     (λ c κs. omega (arith, c .shared-slice-known2 .given (c .before .before .loop .i - 1)))
     (λ c.
     let l = c .before .before .before .loop in
-    omega (arith, turn-fits (l .inv) (c .before .before .loop-test .taken) (c .before .shared-slice-known2 .given (l .i - 1) .fits) (c .spread .ensures) (c .before .before .before .before .before .before .before .pre)))
+    omega (arith, turn-fits (l .inv) (c .before .before .loop-test .taken) (c .before .shared-slice-known2 .given (l .i - 1) .fits) (c .layer-bits .ensures) (c .before .before .before .before .before .before .before .pre)))
     (λ c.
     let l = c .before .before .before .loop in
-    omega (arith, turn-fits (l .inv) (c .before .before .loop-test .taken) (c .before .shared-slice-known2 .given (l .i - 1) .fits) (c .spread .ensures) (c .before .before .before .before .before .before .before .pre)))
+    omega (arith, turn-fits (l .inv) (c .before .before .loop-test .taken) (c .before .shared-slice-known2 .given (l .i - 1) .fits) (c .layer-bits .ensures) (c .before .before .before .before .before .before .before .pre)))
     (λ c. omega arith)
-    (λ c. let l = c .before .before .before .loop in one-before (l .inv) (c .before .before .loop-test .taken) (c .before .shared-slice-known2 .given (l .i - 1) .fits) (c .spread .ensures))
+    (λ c. let l = c .before .before .before .loop in one-before (l .inv) (c .before .before .loop-test .taken) (c .before .shared-slice-known2 .given (l .i - 1) .fits) (c .layer-bits .ensures))
     (λ c.
     let l = c .before .loop in
     let a = c .before .before .before .before .before in
