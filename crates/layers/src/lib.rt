@@ -70,8 +70,7 @@ fn row_at(symbols: &[u8], i: usize) -> u64
     layer_bits(four_at(symbols, i) as u64)
 }
 
-// The numbers of ones and the sums of places that columns of four add up to: `ones` has the ones of each column, and `behind`, for each, the
-// ones behind each row, which count for all four symbols of the row.
+// What four columns add up to: `ones` has the ones of each, and `behind` those behind each of its rows, which count for the row's four symbols.
 fn folded(ones: u64, behind: u64) -> Running
     ensures { λ r. ⌜ r ≡ record { ones = halves columnOnes ones; places = 4 * halves columnOnes behind + halves columnPlaces ones } ⌝ }
 {
@@ -85,7 +84,7 @@ fn folded(ones: u64, behind: u64) -> Running
     }
 }
 
-// The numbers of ones and the sums of places of the symbols from place `from` on, by running sums of rows of four, two rows at a time.
+// The running sums of the symbols from place `from` on, formed in rows of four, two rows at a time.
 fn block_sums(symbols: &[u8], from: usize) -> Running
     requires { ⌜ Block from (length (now symbols)) ⌝ }
     ensures { λ r. ⌜ r ≡ runningOf (drop from (now (symbols .entry))) ⌝ }
@@ -103,7 +102,7 @@ fn block_sums(symbols: &[u8], from: usize) -> Running
     folded(ones, behind)
 }
 
-// Where the last of n symbols start that are eights and not more than 64.
+// Where the block of n symbols starts: the last of them, eights and at most 64.
 fn block_start(n: usize) -> usize
     ensures { λ r. ⌜ Block r n ⌝ }
 {
@@ -113,8 +112,7 @@ fn block_start(n: usize) -> usize
     n % 8
 }
 
-// The check, and the sum of places of each layer, by running sums from the last symbol to the first: the number of ones so far is added at
-// each symbol.
+// The check, and the sum of places of each layer, from the last symbol to the first: at each the number of ones so far is added to the sum.
 pub fn sums(symbols: &[u8]) -> Summed
     requires { ⌜ length (now symbols) ≤ longest ⌝ }
     ensures { λ r. ⌜ r ≡ sumsOf (now (symbols .entry)) ⌝ }
