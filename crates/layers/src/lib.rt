@@ -44,7 +44,7 @@ pub fn digit_of(symbol: u8, shift: u8) -> usize
 }
 
 // What a place adds to the sum of places of a layer: its number where the symbol there has a one, and else 0.
-pub fn place_of(symbol: u8, shift: u8, place: usize) -> usize
+pub fn place_if_one(symbol: u8, shift: u8, place: usize) -> usize
     requires { ⌜ shift < 2 ⌝ }
     ensures { λ r. ⌜ r ≡ cond (bit shift symbol) place 0 ⌝ }
 {
@@ -144,8 +144,8 @@ pub fn with_last(symbols: &[u8], places: Layers) -> Layers
     let k = symbols.len();
     let x = symbols[k - 1];
     Layers {
-        high: places.high + place_of(x, 1, k),
-        low: places.low + place_of(x, 0, k),
+        high: places.high + place_if_one(x, 1, k),
+        low: places.low + place_if_one(x, 0, k),
     }
 }
 
@@ -157,8 +157,8 @@ pub fn without_last(symbols: &[u8], places: Layers) -> Layers
     let k = symbols.len();
     let x = symbols[k - 1];
     Layers {
-        high: places.high - place_of(x, 1, k),
-        low: places.low - place_of(x, 0, k),
+        high: places.high - place_if_one(x, 1, k),
+        low: places.low - place_if_one(x, 0, k),
     }
 }
 

@@ -2,7 +2,6 @@
 use mathlib.Core.Path.{_≡_}
 use Prim.Native.Nat.{ℕ, suc, _+_, _*_, _≤_, _<_}
 use mathlib.Core.List.{List}
-use native.Mathlib.Nat.{add-assoc}
 use native.Mathlib.Omega.{arith}
 use lib.ListN.{length, getD, take, drop}
 use mir.Syntax.{w8}
@@ -25,17 +24,6 @@ pub record Four (l : List ℕ) (i : ℕ) : Type 0 where
 pub four : (l : List ℕ) (i : ℕ) → ((j : ℕ) → Fits w8 (getD l j 0)) → Four l i
 four l i f = record { byte0 = f i .fits; byte1 = f (i + 1) .fits; byte2 = f (i + 2) .fits; byte3 = f (i + 3) .fits }
 
--- each of the eight is a byte
-pub record Eight (l : List ℕ) (i : ℕ) : Type 0 where
-  pub low : Four l i
-  pub byte4 : getD l (i + 4) 0 < 256
-  pub byte5 : getD l (i + 5) 0 < 256
-  pub byte6 : getD l (i + 6) 0 < 256
-  pub byte7 : getD l (i + 7) 0 < 256
-
-pub eight : (l : List ℕ) (i : ℕ) → ((j : ℕ) → Fits w8 (getD l j 0)) → Eight l i
-eight l i f = record { low = four l i f; byte4 = f (i + 4) .fits; byte5 = f (i + 5) .fits; byte6 = f (i + 6) .fits; byte7 = f (i + 7) .fits }
-
 -- the word of the four and n more
 word-more : (l : List ℕ) (n i : ℕ) → i + 4 ≤ length l → getD l i 0 + 256 * getD l (i + 1) 0 + 65536 * getD l (i + 2) 0 + 16777216 * getD l (i + 3) 0 + 4294967296 * wordOf (take n (drop (i + 4) l)) ≡ wordOf (take (suc (suc (suc (suc n)))) (drop i l))
 word-more l n i h =
@@ -51,5 +39,5 @@ unfolding wordOf
 word-four l i h = omega (arith, word-more l 0 i h)
 
 -- the word of the eight
-pub word-eight : (l : List ℕ) (i : ℕ) → i + 8 ≤ length l → getD l i 0 + 256 * getD l (i + 1) 0 + 65536 * getD l (i + 2) 0 + 16777216 * getD l (i + 3) 0 + 4294967296 * getD l (i + 4) 0 + 1099511627776 * getD l (i + 5) 0 + 281474976710656 * getD l (i + 6) 0 + 72057594037927936 * getD l (i + 7) 0 ≡ wordOf (take 8 (drop i l))
-word-eight l i h = omega (arith, word-more l 4 i (omega arith), simp add-assoc at (word-four l (i + 4) (omega arith)))
+pub word-eight : (l : List ℕ) (i : ℕ) → i + 8 ≤ length l → wordOf (take 4 (drop i l)) + 4294967296 * wordOf (take 4 (drop (i + 4) l)) ≡ wordOf (take 8 (drop i l))
+word-eight l i h = omega (arith, word-more l 4 i (omega arith), word-four l i (omega arith))

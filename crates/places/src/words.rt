@@ -17,12 +17,5 @@ pub fn eight_at(s: &[u8], i: usize) -> u64
     requires { ⌜ i + 8 ≤ length (now s) ⌝ }
     ensures { λ r. ⌜ r ≡ wordOf (take 8 (drop i (now (s .entry)))) ⌝ }
 {
-    s[i] as u64
-        + 256 * (s[i + 1] as u64)
-        + 65536 * (s[i + 2] as u64)
-        + 16777216 * (s[i + 3] as u64)
-        + 4294967296 * (s[i + 4] as u64)
-        + 1099511627776 * (s[i + 5] as u64)
-        + 281474976710656 * (s[i + 6] as u64)
-        + 72057594037927936 * (s[i + 7] as u64)
+    four_at(s, i) as u64 + 4294967296 * (four_at(s, i + 4) as u64)
 }

@@ -2,7 +2,7 @@
 use code::Link;
 use code::Repair;
 use layers::digit_of;
-use layers::place_of;
+use layers::place_if_one;
 ghost use mathlib.Core.Path.{_≡_};
 ghost use Prim.Native.Nat.{_+_, _-_, _*_, _<_, _≤_, min, max};
 ghost use mathlib.Core.Bool.{false};
@@ -68,7 +68,7 @@ fn repair_more(symbols: &[u8], shift: u8, sum: usize, written: usize) -> Repair
     while 0 < i {
         i -= 1;
         let b = digit_of(symbols[i], shift);
-        if ones + place_of(symbols[i], shift, i + 1) == d {
+        if ones + place_if_one(symbols[i], shift, i + 1) == d {
             return Repair::At(i, b == 1);
         }
         ones += b;

@@ -14,15 +14,15 @@ without-last-spec =
     (λ c.
     let m = c .before .before .before .before .args .symbols .now in
     let p = c .before .before .before .before .pre in
-    without-place 1 m (p .0) _ (c .before .place-of .ensures) _ (highs (p .2)) .0)
+    without-place 1 m (p .0) _ (c .before .place-if-one .ensures) _ (highs (p .2)) .0)
     (λ c κs. search needs)
     (λ c.
     let m = c .before .before .before .before .before .before .args .symbols .now in
     let p = c .before .before .before .before .before .before .pre in
-    without-place 0 m (p .0) _ (c .before .place-of2 .ensures) _ (lows (p .2)) .0)
+    without-place 0 m (p .0) _ (c .before .place-if-one2 .ensures) _ (lows (p .2)) .0)
     (λ c.
     let m = c .before .before .before .before .before .before .args .symbols .now in
     let p = c .before .before .before .before .before .before .pre in
-    let h = without-place 1 m (p .0) _ (c .before .before .before .place-of .ensures) _ (highs (p .2)) .1 in
-    let l = without-place 0 m (p .0) _ (c .before .place-of2 .ensures) _ (lows (p .2)) .1 in
+    let h = without-place 1 m (p .0) _ (c .before .before .before .place-if-one .ensures) _ (highs (p .2)) .1 in
+    let l = without-place 0 m (p .0) _ (c .before .place-if-one2 .ensures) _ (lows (p .2)) .1 in
     λ i. record { high = h i; low = l i }))

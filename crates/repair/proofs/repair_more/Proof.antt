@@ -45,7 +45,7 @@ repair-more-spec =
     let a = c .before .before .before .before .before .before .before .before .before .args in
     let l = c .before .before .before .before .before .loop in
     let b = c .before .before .digit-of in
-    omega (arith, more-few (a .shift) (a .symbols .now) (c .before .before .before .before .before .before .ahead-of .result) (l .i) (l .i - 1) (l .ones) (b .result) (omega arith) (omega arith) (b .ensures .0) _ (c .place-of .ensures) (l .inv .1)))
+    omega (arith, more-few (a .shift) (a .symbols .now) (c .before .before .before .before .before .before .ahead-of .result) (l .i) (l .i - 1) (l .ones) (b .result) (omega arith) (omega arith) (b .ensures .0) _ (c .place-if-one .ensures) (l .inv .1)))
     (λ c.
     let a = c .before .before .before .before .before .before .before .before .before .before .args in
     let m = a .symbols .now in
@@ -54,14 +54,14 @@ repair-more-spec =
     let b = c .before .before .before .digit-of in
     let n = length-layer (a .shift) m in
     more-found (layer (a .shift) m) (length m - 1) (a .sum) (a .written) (d .result) (omega arith) (omega arith) (c .before .before .before .before .before .before .before .before .before .before .pre .3) (c .before .before .before .before .before .before .before .before .if1 .left) (d .ensures) (l .i - 1) (eqb (b .result) 1) (omega arith)
-    (sym (more-loss (a .shift) m (d .result) (l .i) (l .i - 1) (l .ones) (b .result) (omega arith) (omega arith) (b .ensures .0) _ (c .before .place-of .ensures) (l .inv .1)) ∙ c .if2 .taken))
+    (sym (more-loss (a .shift) m (d .result) (l .i) (l .i - 1) (l .ones) (b .result) (omega arith) (omega arith) (b .ensures .0) _ (c .before .place-if-one .ensures) (l .inv .1)) ∙ c .if2 .taken))
     (λ c. let l = c .before .before .before .before .before .before .loop in let a = c .before .before .before .before .before .before .before .before .before .before .args in omega (arith, ones-few (a .shift) (a .symbols .now) (l .i) (l .ones) (l .inv .1 .counted)))
     (λ c. omega arith)
     (λ c.
     let a = c .before .before .before .before .before .before .before .before .before .before .args in
     let l = c .before .before .before .before .before .before .loop in
     let b = c .before .before .before .digit-of in
-    (omega arith, more-turn (a .shift) (a .symbols .now) (c .before .before .before .before .before .before .before .ahead-of .result) (l .i) (l .i - 1) (l .ones) (b .result) (omega arith) (omega arith) (b .ensures .0) _ (c .before .place-of .ensures) (l .inv .1) (c .if2 .left)))
+    (omega arith, more-turn (a .shift) (a .symbols .now) (c .before .before .before .before .before .before .before .ahead-of .result) (l .i) (l .i - 1) (l .ones) (b .result) (omega arith) (omega arith) (b .ensures .0) _ (c .before .place-if-one .ensures) (l .inv .1) (c .if2 .left)))
     (λ c.
     let a = c .before .before .before .before .before .args in
     let m = a .symbols .now in

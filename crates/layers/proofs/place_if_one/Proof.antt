@@ -4,8 +4,8 @@ use Prim.Native.Nat.{ℕ}
 use native.Mathlib.Omega.{arith}
 use borrow.Author.Needs.{needs}
 use Rattle.code.specs.Layers.{bit, digit}
-use Rattle.layers.proofs.place_of.Statement.{statement}
-use Rattle.layers.proofs.place_of.Tie as tie
+use Rattle.layers.proofs.place_if_one.Statement.{statement}
+use Rattle.layers.proofs.place_if_one.Tie as tie
 
 -- d is the number of a bit, n a place
 one-adds : (b : Bool) (d n : ℕ) → d ≡ digit b → d ≡ 1 → n ≡ cond b n 0
@@ -16,8 +16,8 @@ zero-adds : (b : Bool) (d n : ℕ) → d ≡ digit b → (d ≡ 1 → ⊥) → 0
 zero-adds true d n e f = absurd (f e)
 zero-adds false d n e f = refl
 
-pub place-of-spec : {M : Type 1} → statement M
-place-of-spec =
+pub place-if-one-spec : {M : Type 1} → statement M
+place-if-one-spec =
     tie.close
     (tie.spec
     (λ c κs. search needs)
