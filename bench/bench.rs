@@ -1,4 +1,5 @@
 //! Letters written and read a second: the library against the tuned rival, or against the library of another commit.
+//! The strand whose reading costs most, beside an untouched one.
 //! Letters reported a second: the library's report beside its reading.
 
 #[allow(dead_code)]
@@ -28,6 +29,8 @@ const STRANDS: usize = 64;
 const ROUNDS: usize = 400;
 /// Letters a side handles in one round.
 const ROUND_LETTERS: usize = 100_000;
+/// Readings of the worst strand in one round.
+const WORST_STRANDS: usize = 8;
 
 #[derive(Clone, Copy, PartialEq, Eq)]
 enum Side {
@@ -87,6 +90,7 @@ enum Job {
     OneEdit,
     Damaged,
     WithN,
+    Worst,
 }
 
 struct Set {
@@ -94,6 +98,10 @@ struct Set {
     b: u32,
     messages: Vec<Vec<u8>>,
     strands: Vec<Vec<u8>>,
+    /// Letters of all strands.
+    letters: usize,
+    /// Passes over the set in one round.
+    passes: usize,
 }
 
 /// The first sequence of a number whose letters are A, T, C and G alone.
@@ -112,7 +120,11 @@ fn set(job: Job, lengths: &[u16], b: u32) -> Set {
     let mut rng = sequence((lengths[0] as u32 * 1000 + b) as u64);
     let mut messages = Vec::new();
     let mut all = Vec::new();
-    for _ in 0..STRANDS {
+    let count = match job {
+        Job::Worst => WORST_STRANDS,
+        _ => STRANDS,
+    };
+    for _ in 0..count {
         let message = rng.bytes(b as usize);
         let mut room = Room::new();
         let letters = write_one(Side::Tuned, lengths, b, &message, &mut room);
@@ -138,14 +150,22 @@ fn set(job: Job, lengths: &[u16], b: u32) -> Set {
                 .iter()
                 .map(|&letter| if rng.once_in(100) { b'N' } else { letter })
                 .collect(),
+            Job::Worst => worst_letters(),
         });
         messages.push(message);
     }
+    let letters: usize = all.iter().map(Vec::len).sum();
+    let passes = match job {
+        Job::Worst => 1,
+        _ => ROUND_LETTERS / letters.max(1) + 1,
+    };
     Set {
         lengths: lengths.to_vec(),
         b,
         messages,
         strands: all,
+        letters,
+        passes,
     }
 }
 
@@ -173,10 +193,33 @@ fn report_pass(set: &Set, room: &mut Room) {
     black_box(room);
 }
 
-/// Both sides give the same answers on the set.
-fn agree(job: Job, set: &Set) {
+/// So many symbols of a message, or marks of a sheet.
+fn symbols(bytes: &[u8], count: usize) -> Vec<u8> {
+    let symbol = |i: usize| bytes[i / 4] >> (6 - i % 4 * 2) & 3;
+    (0..count).map(symbol).collect()
+}
+
+/// Whether the library passed a segment and found a later one, where the other side lost all from there on.
+/// All before the one found is the same.
+fn passed(lengths: &[u16], one: &Room, other: &Room) -> bool {
+    let [marks, others] = [one, other].map(|room| symbols(&room.sheet, lengths.len()));
+    let Some(found) = (0..marks.len()).find(|&i| marks[i] != others[i]) else {
+        return false;
+    };
+    let (all, before) = (strands::sum(lengths), strands::sum(&lengths[..found]));
+    let [read, others_read] = [one, other].map(|room| symbols(&room.message, all as usize));
+    let (same, zeros) = others_read.split_at(before as usize);
+    marks[..found].ends_with(&[2, 2])
+        && others[found..].iter().all(|&mark| mark == 2)
+        && read.starts_with(same)
+        && zeros.iter().all(|&symbol| symbol == 0)
+}
+
+/// Both sides give the same answers on the set; hands back how many strands are left out, since a segment is passed.
+fn agree(job: Job, set: &Set) -> usize {
     let (mut one, mut other) = (Room::new(), Room::new());
     let (lengths, b) = (&set.lengths, set.b);
+    let mut left_out = 0;
     for (message, strand) in set.messages.iter().zip(&set.strands) {
         let same = if job == Job::Write {
             write_one(Side::Library, lengths, b, message, &mut one)
@@ -185,15 +228,20 @@ fn agree(job: Job, set: &Set) {
             read_one(Side::Library, lengths, b, strand, &mut one)
                 == read_one(Side::Tuned, lengths, b, strand, &mut other)
         };
-        if !same
-            || one.strand != other.strand
-            || one.message != other.message
-            || one.sheet != other.sheet
+        if same
+            && one.strand == other.strand
+            && one.message == other.message
+            && one.sheet == other.sheet
         {
+            continue;
+        }
+        if job == Job::Write || !passed(lengths, &one, &other) {
             println!("disagreement: lengths {lengths:?} B {b}");
             exit(1);
         }
+        left_out += 1;
     }
+    left_out
 }
 
 /// The reports on the set have a line for each segment and tell as many clean and lost as the readings.
@@ -225,8 +273,6 @@ struct Measured {
 
 /// Measures passes over the set by two sides, which are 0 and 1.
 fn measure(set: &Set, pass: impl Fn(usize, &mut Room)) -> Measured {
-    let letters: usize = set.strands.iter().map(Vec::len).sum();
-    let passes = ROUND_LETTERS / letters.max(1) + 1;
     let mut room = Room::new();
     let mut best = [0f64; 2];
     let mut ratios = Vec::new();
@@ -235,11 +281,11 @@ fn measure(set: &Set, pass: impl Fn(usize, &mut Room)) -> Measured {
         for turn in 0..2 {
             let which = (turn + round) % 2;
             let start = Instant::now();
-            for _ in 0..passes {
+            for _ in 0..set.passes {
                 pass(which, &mut room);
             }
             let seconds = start.elapsed().as_secs_f64();
-            speeds[which] = (letters * passes) as f64 / seconds / 1e6;
+            speeds[which] = (set.letters * set.passes) as f64 / seconds / 1e6;
             best[which] = best[which].max(speeds[which]);
         }
         ratios.push(speeds[0] / speeds[1]);
@@ -253,6 +299,19 @@ fn measure(set: &Set, pass: impl Fn(usize, &mut Room)) -> Measured {
 
 /// Short segments at the ends.
 const MIXED: [u16; 12] = [8, 8, 16, 16, 32, 64, 64, 32, 16, 16, 8, 8];
+
+/// Of 64 segments the longest last: the later a segment, the more starts is it sought at.
+fn worst_lengths() -> Vec<u16> {
+    let parts = [(2, 2), (2, 3), (1, 5), (57, 7), (2, 49)];
+    let each = |(count, length)| std::iter::repeat_n(length, count);
+    parts.into_iter().flat_map(each).collect()
+}
+
+/// The worst strand that was found for them: marker and separator stand at one start in four, a clean segment at none.
+fn worst_letters() -> Vec<u8> {
+    let period = b"CCCAACCAACCAACCCCCCCC";
+    period.iter().copied().cycle().take(2048).collect()
+}
 
 /// The layouts of the table, by name.
 fn layouts() -> Vec<(&'static str, Vec<u16>, u32)> {
@@ -275,7 +334,7 @@ fn rival_takes_n() -> bool {
     read_one(Side::Tuned, &[4], 1, b"ATCGCANAGGC", &mut Room::new()) != [0; 3]
 }
 
-fn put_row(layout: &str, name: &str, measured: Measured) {
+fn put_row(layout: &str, name: &str, measured: &Measured) {
     let row = format!("{layout} {name}");
     let ([one, other], ratio) = (measured.best, measured.ratio);
     println!("{row:<28} {one:>9.1} {other:>9.1} {ratio:>7.2}");
@@ -293,14 +352,38 @@ fn table() {
     }
     println!("million letters a second, best of {ROUNDS} rounds; ratio library/{RIVAL}, median");
     println!("{:<28} {:>9} {:>9} {:>7}", "", "library", RIVAL, "ratio");
+    let (mut left_out, mut readings) = (0, 0);
+    // Hands back the microseconds that one strand takes each side.
+    let mut row = |layout: &str, lengths: &[u16], b, name: &str, job| {
+        let set = set(job, lengths, b);
+        left_out += agree(job, &set);
+        if job != Job::Write {
+            readings += set.strands.len();
+        }
+        let sides = [Side::Library, Side::Tuned];
+        let measured = measure(&set, |which, room| pass(sides[which], job, &set, room));
+        put_row(layout, name, &measured);
+        let letters = set.letters as f64 / set.strands.len() as f64;
+        measured.best.map(|speed| letters / speed)
+    };
     for (layout, lengths, b) in layouts() {
         for &(name, job) in &jobs {
-            let set = set(job, &lengths, b);
-            agree(job, &set);
-            let sides = [Side::Library, Side::Tuned];
-            let measured = measure(&set, |which, room| pass(sides[which], job, &set, room));
-            put_row(layout, name, measured);
+            row(layout, &lengths, b, name, job);
         }
+    }
+    if tuned::MIXED {
+        let lengths = worst_lengths();
+        let mut row = |name, job| row("2 to 49 B=128", &lengths, 128, name, job);
+        let untouched = row("read untouched", Job::Untouched);
+        let worst = row("read worst", Job::Worst);
+        let [one, other] = [0, 1].map(|which| worst[which] / untouched[which]);
+        println!(
+            "untouched readings in the time of a worst one: library {one:.1}, {RIVAL} {other:.1}"
+        );
+    }
+    if left_out > 0 {
+        println!("{RIVAL} gives up where the library passes a segment;");
+        println!("{left_out} of {readings} strands are measured but not compared");
     }
 }
 
@@ -324,36 +407,44 @@ fn report_table() {
                 0 => pass(Side::Library, job, &set, room),
                 _ => report_pass(&set, room),
             });
-            put_row(layout, name, measured);
+            put_row(layout, name, &measured);
         }
     }
 }
 
-/// N readings or reports of a fixed set of strands with k=16, for counting instructions.
-fn work(side: &str, b: u32, count: usize) {
-    let lengths = &strands::equal_lengths(16, b);
-    let mut strands = Vec::new();
-    for job in [Job::Untouched, Job::OneEdit, Job::Damaged] {
-        strands.extend(set(job, lengths, b).strands.into_iter().take(8));
+/// N readings or reports for counting instructions: of a fixed set of strands with k=16, or on the lengths of the worst strand.
+fn work(side: &str, strands: &str, count: usize) {
+    let mixed = [Job::Untouched, Job::OneEdit, Job::Damaged];
+    let (lengths, b, jobs) = match (strands, strands.parse()) {
+        ("worst", _) => (worst_lengths(), 128, &[Job::Worst][..]),
+        ("untouched", _) => (worst_lengths(), 128, &[Job::Untouched][..]),
+        (_, Ok(b @ (8 | 32 | 128))) => (strands::equal_lengths(16, b), b, &mixed[..]),
+        _ => usage(),
+    };
+    let mut all = Vec::new();
+    for &job in jobs {
+        all.extend(set(job, &lengths, b).strands.into_iter().take(8));
     }
     let mut room = Room::new();
     let mut letters = 0;
-    for strand in strands.iter().cycle().take(count) {
+    for strand in all.iter().cycle().take(count) {
         letters += strand.len();
         let strand = black_box(strand);
         black_box(match side {
-            "library" => read_one(Side::Library, lengths, b, strand, &mut room),
-            "tuned" => read_one(Side::Tuned, lengths, b, strand, &mut room),
-            "report" => [report_one(lengths, b, strand, &mut room) as u32; 3],
+            "library" => read_one(Side::Library, &lengths, b, strand, &mut room),
+            "tuned" => read_one(Side::Tuned, &lengths, b, strand, &mut room),
+            "report" => [report_one(&lengths, b, strand, &mut room) as u32; 3],
             "none" => [0; 3],
             _ => usage(),
         });
     }
-    println!("{side} k=16 B={b}: {count} readings, {letters} letters");
+    println!("{side} {strands}: {count} readings, {letters} letters");
 }
 
 fn usage() -> ! {
-    eprintln!("usage: bench | bench report | bench work library|tuned|report|none B N");
+    eprintln!(
+        "usage: bench | bench report | bench work library|tuned|report|none 8|32|128|untouched|worst N"
+    );
     exit(2);
 }
 
@@ -363,8 +454,8 @@ fn main() {
     match arguments[..] {
         [] => table(),
         ["report"] => report_table(),
-        ["work", side, b, count] => match (b.parse(), count.parse()) {
-            (Ok(b @ (8 | 32 | 128)), Ok(count)) => work(side, b, count),
+        ["work", side, strands, count] => match count.parse() {
+            Ok(count) => work(side, strands, count),
             _ => usage(),
         },
         _ => usage(),

@@ -1,7 +1,8 @@
 //! The independent reader and writer of DNA-LM strands, tuned by hand: safe Rust, no allocation.
-//! It keeps the ten reading steps of docs/SPECIFICATION.md, the symbols of the strand in an array of 2,048,
+//! It keeps the reading steps of docs/SPECIFICATION.md, the symbols of the strand in an array of 2,048,
 //! and a verdict for each segment, from which mark, sheet and counts are taken. Equal lengths have a walk of their own,
 //! and so have strands with an N.
+//! Its step 10 keeps the single scan: it seeks the next segment in one window; if that finds none, all later ones are lost.
 
 use std::ops::Deref;
 
@@ -1000,7 +1001,7 @@ fn end_by_next(strand: impl Received, own: usize, f: u8, next: &impl Next) -> Op
         .find(|&end| next.clean_at(strand, end, f))
 }
 
-/// Step 10: the start of the next clean segment, which has K symbols.
+/// Step 10 in one window: the start of the next clean segment, which has K symbols.
 #[inline(never)]
 fn scan<const K: usize, const C: usize>(
     strand: impl Received,

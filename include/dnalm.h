@@ -184,8 +184,8 @@ dnalm_counts dnalm_read(const uint16_t *lengths, size_t lengths_count, uint32_t 
 
 /*
  * Answers which letters belong to a segment by that reading; the first segment is 1.
- * The pieces follow each other and are all the letters, N among them. A lost segment's piece runs to the
- * start of the next segment or to the end.
+ * The pieces follow each other and are all the letters, N among them. The piece of a segment that a step
+ * loses runs to the next start that was found or to the end; one without a start has an empty piece there.
  *
  * Refused, in this order: 1, 2, 3, 4, 6, 9. It writes to nothing.
  */

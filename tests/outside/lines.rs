@@ -146,6 +146,100 @@ pub fn told() {
     sample("most bytes", (got.refusal, got.length), (0, 883));
 }
 
+/// What is told where a scan passes segments or goes through wider windows, worked out by hand: B, lengths, letters, words
+/// and the starts of the pieces.
+pub fn passed() {
+    let passed: [(u32, &[u16], &str, &str, &[usize]); 9] = [
+        // The last letter of the first segment and the first of the second are hit: the third is found in its place.
+        (
+            3,
+            &[3; 4],
+            "ATCGTTTAGATAGGCACCCATTGGTAATGGGAATGGTCGCTTTGAC",
+            "lost 8|lost start|clean|clean",
+            &[0, 22, 22, 34],
+        ),
+        // An unknown letter in the third segment too.
+        (
+            3,
+            &[2, 2, 2, 6],
+            "ATTGGGTCATCGTAAAGCAAGCTNAACGCCTAATCGGTTTGAGG",
+            "lost 8|lost start|lost start|clean",
+            &[0, 28, 28, 28],
+        ),
+        // Of ATTGGGTA, TTCGGCCAAATCT and GGTATGGGAT the letters 4 to 15 and 4 to 19 are cut out: 12 and 16 before 21.
+        (
+            2,
+            &[2, 4, 2],
+            "ATTGAATCTGGTATGGGAT",
+            "lost 8|lost start|clean",
+            &[0, 9, 9],
+        ),
+        (
+            2,
+            &[2, 4, 2],
+            "ATTGTGGTATGGGAT",
+            "lost 8|lost start|clean",
+            &[0, 5, 5],
+        ),
+        // 17 before 21 no start is tried.
+        (
+            2,
+            &[2, 4, 2],
+            "ATTTGGTATGGGAT",
+            "lost 8|lost start|lost start",
+            &[0, 14, 14],
+        ),
+        // A third segment stands at 5, and the second is found at 15.
+        (
+            2,
+            &[2, 4, 2],
+            "ATTGTGGTATGGGATAACGGCCAAATCTGGTATGGGAT",
+            "lost 8|clean|clean",
+            &[0, 15, 28],
+        ),
+        // 5 before 21 and 5 behind it a third segment stands: the first is taken, and letters are left over.
+        (
+            2,
+            &[2, 4, 2],
+            "ATAGATAGATAGAGATGGTATGGGATGGTATGGGAT",
+            "lost 6|lost start|lost 9",
+            &[0, 16, 16],
+        ),
+        // 16 behind 21, and 17 behind it.
+        (
+            2,
+            &[2, 4, 2],
+            "ATAGATAGATAGATAGATAGATAGATAGATAGATAGTGGTATGGGAT",
+            "lost 6|lost start|clean",
+            &[0, 37, 37],
+        ),
+        (
+            2,
+            &[2, 4, 2],
+            "ATAGATAGATAGATAGATAGATAGATAGATAGATAGATGGTATGGGAT",
+            "lost 6|lost start|lost start",
+            &[0, 48, 48],
+        ),
+    ];
+    for (b, lengths, letters, words, starts) in passed {
+        let name = format!("lines of {letters}");
+        let (_, lines) = library_report(lengths, b, letters.as_bytes());
+        let wanted: Vec<String> = words.split('|').zip(1..).map(line_of).collect();
+        sample(
+            &name,
+            String::from_utf8_lossy(&lines),
+            wanted.concat().into(),
+        );
+        let piece = |segment: u32| ffi::piece(lengths, b, letters.as_bytes(), segment);
+        let pieces: Vec<_> = (1..=lengths.len() as u32).map(piece).collect();
+        let got: Vec<usize> = pieces.iter().map(|piece| piece.start).collect();
+        sample(&name, got, starts.to_vec());
+        // Each piece goes up to the next one.
+        let ends: Vec<usize> = pieces.iter().map(|x| x.start + x.length).collect();
+        sample(&name, ends, [&starts[1..], &[letters.len()]].concat());
+    }
+}
+
 fn line_of((words, number): (&str, usize)) -> String {
     format!("{number} {words}\n")
 }

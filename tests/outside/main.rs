@@ -163,6 +163,8 @@ fn turns() -> Vec<Kind> {
         Kind::Damaged(Damage::Crowded),
         Kind::Damaged(Damage::Islands),
         Kind::Damaged(Damage::UnknownBehind),
+        Kind::Damaged(Damage::Neighbours),
+        Kind::Damaged(Damage::Scattered),
         Kind::ManyFaults,
     ]);
     turns
@@ -260,6 +262,15 @@ impl Met {
             "foreign behind N",
         ];
         names.extend(letters.map(String::from));
+        let scans = [
+            "strand with a segment passed",
+            "several passed at once",
+            "found beyond 8 letters",
+            "passed again further on",
+            "clean behind the one found",
+            "none found of several",
+        ];
+        names.extend(scans.map(String::from));
         let layouts = [
             "equal lengths",
             "mixed lengths",
@@ -693,6 +704,42 @@ impl Run {
                     self.met.add("scanned behind N");
                 }
             }
+        }
+        self.count_passed(received);
+    }
+
+    /// Counts what is found behind segments that a scan passed.
+    fn count_passed(&mut self, received: &Received) {
+        let segments = received.segments.as_deref().unwrap_or_default();
+        let written = strands::segment_lengths(received.lengths);
+        let no_start = |segment: &Segment| segment.verdict == Verdict::NoStart;
+        let mut strand_passed = false;
+        // Each is a lost segment with those behind it that have no start.
+        for (lost, segment) in segments.iter().enumerate() {
+            let behind = &segments[lost + 1..];
+            let passed = behind.iter().take_while(|x| no_start(x)).count();
+            if no_start(segment) || passed == 0 {
+                continue;
+            }
+            let Some(found) = behind.get(passed) else {
+                self.met_if(passed > 1, "none found of several");
+                continue;
+            };
+            let centre = segment.start + written[lost..=lost + passed].iter().sum::<usize>();
+            self.met_if(passed > 1, "several passed at once");
+            self.met_if(found.start.abs_diff(centre) > 8, "found beyond 8 letters");
+            self.met_if(strand_passed, "passed again further on");
+            let clean = Verdict::Read(Edit::None);
+            let next = behind.get(passed + 1).map(|next| next.verdict);
+            self.met_if(next == Some(clean), "clean behind the one found");
+            strand_passed = true;
+        }
+        self.met_if(strand_passed, "strand with a segment passed");
+    }
+
+    fn met_if(&mut self, holds: bool, name: &str) {
+        if holds {
+            self.met.add(name);
         }
     }
 
@@ -1413,6 +1460,7 @@ fn samples() {
     sample_letters();
     sample_unknown();
     lines::told();
+    lines::passed();
     lines::refused();
     println!("samples hold");
 }

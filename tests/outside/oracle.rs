@@ -475,19 +475,24 @@ fn segment_at(
     Ok((message, end, verdict))
 }
 
-/// Step 10: the start of the next clean segment, sought about the end of the lost one.
-fn scan(lost: &Shape, next: &Shape, strand: &Strand, p: usize) -> Option<usize> {
-    let mut moves = vec![0];
-    for d in 1..=8 {
-        moves.extend([-d, d]);
-    }
-    for d in moves {
-        let start = (p + lost.n).checked_add_signed(d).unwrap();
-        if start <= p || start > strand.len() {
-            continue;
+/// Step 10 after a loss at p: the start of the next clean segment and how many are passed before it.
+/// The first shape is that of the lost segment; each further one is sought behind all before it.
+fn scan(shapes: &[Shape], strand: &Strand, p: usize) -> Option<(usize, usize)> {
+    let mut centre = p;
+    for (passed, pair) in shapes.windows(2).enumerate() {
+        centre += pair[0].n;
+        let mut moves = vec![0];
+        for d in 1..=8 * (passed as isize + 1) {
+            moves.extend([-d, d]);
         }
-        if strand.clean_at(next, start, strand.symbols[start - 1]) {
-            return Some(start);
+        for d in moves {
+            let start = centre.checked_add_signed(d).unwrap();
+            if start <= p || start > strand.len() {
+                continue;
+            }
+            if strand.clean_at(&pair[1], start, strand.symbols[start - 1]) {
+                return Some((start, passed));
+            }
         }
     }
     None
@@ -515,31 +520,31 @@ fn all_segments(lay: &Layout, strand: &Strand) -> Vec<Segment> {
                 scanned = false;
             }
             Err(step) => {
-                let found = next.and_then(|next| scan(shape, next, strand, p));
+                let later = &lay.shapes[segments.len() + 1..];
+                let found = scan(&lay.shapes[segments.len()..], strand, p);
+                // Where nothing is found all later ones are passed, up to the strand's end.
+                let (start, passed) = found.unwrap_or((strand.len(), later.len()));
                 segments.push(Segment {
                     start: p,
-                    end: found.unwrap_or(strand.len()),
+                    end: start,
                     scanned,
                     verdict: Verdict::Lost { step },
                     message: vec![0; shape.k],
                 });
-                let Some(start) = found else {
-                    break;
-                };
+                for shape in &later[..passed] {
+                    segments.push(Segment {
+                        start,
+                        end: start,
+                        scanned: false,
+                        verdict: Verdict::NoStart,
+                        message: vec![0; shape.k],
+                    });
+                }
                 p = start;
-                f = Some(strand.symbols[start - 1]);
+                f = strand.symbols[..start].last().copied();
                 scanned = true;
             }
         }
-    }
-    while let Some(shape) = lay.shapes.get(segments.len()) {
-        segments.push(Segment {
-            start: strand.len(),
-            end: strand.len(),
-            scanned: false,
-            verdict: Verdict::NoStart,
-            message: vec![0; shape.k],
-        });
     }
     segments
 }

@@ -404,9 +404,13 @@ pub enum Damage {
     UnknownBefore,
     /// A segment hit in separator or syndrome, and an unknown letter in the next one.
     UnknownBehind,
+    /// Neighbouring segments badly hit, the others whole.
+    Neighbours,
+    /// Some segments whole, other letters in the places of the rest.
+    Scattered,
 }
 
-pub const DAMAGES: [Damage; 15] = [
+pub const DAMAGES: [Damage; 17] = [
     Damage::Crowded,
     Damage::Many,
     Damage::CutOut,
@@ -422,6 +426,8 @@ pub const DAMAGES: [Damage; 15] = [
     Damage::Undecided,
     Damage::UnknownBefore,
     Damage::UnknownBehind,
+    Damage::Neighbours,
+    Damage::Scattered,
 ];
 
 /// The marker letter after a letter, an unknown one taken as A, and before a message.
@@ -472,6 +478,63 @@ fn island(received: &mut Vec<u8>, segment: &[u8]) {
 fn bad_stretch(rng: &mut Rng, segment: &[u8]) -> Vec<u8> {
     let count = segment.len() + rng.below(19);
     rng.letters(count.saturating_sub(9))
+}
+
+/// A segment hit more than once: by edits, by a cut, by other letters or by unknown ones.
+fn badly_hit(rng: &mut Rng, segment: &[u8]) -> Vec<u8> {
+    let from = rng.below(segment.len());
+    let to = from + 1 + rng.below(segment.len() - from);
+    let mut part = segment.to_vec();
+    match rng.below(5) {
+        0 => {
+            part.drain(from..to);
+        }
+        1 => part[from..to].fill(UNKNOWN),
+        2 => return bad_stretch(rng, segment),
+        _ => {
+            let edits = 2 + rng.below(3);
+            return edited(rng, segment, edits);
+        }
+    }
+    part
+}
+
+/// Letters in the place of neighbouring segments, more or fewer by up to a letter past the window that a scan has behind them.
+fn long_stretch(rng: &mut Rng, segments: &[Vec<u8>]) -> Vec<u8> {
+    let written: usize = segments.iter().map(Vec::len).sum();
+    let (window, random) = (8 * segments.len(), rng.below(8 * segments.len()));
+    let moved = rng.of(&[random, random, window - 1, window, window, window + 1]);
+    let count = if rng.once_in(2) {
+        written + moved
+    } else {
+        written.saturating_sub(moved)
+    };
+    rng.letters(count)
+}
+
+/// Neighbouring segments badly hit, each by itself or all in one stretch; the next one's marker often fits the letter before.
+fn neighbours(rng: &mut Rng, segments: &[Vec<u8>]) -> Vec<u8> {
+    let most = segments.len().min(rng.of(&[2, 3, 3, 4, 9]));
+    let count = most - rng.below(most.min(2));
+    let from = rng.below(segments.len() - count + 1);
+    let (bad, behind) = (&segments[from..from + count], &segments[from + count..]);
+    let mut received = segments[..from].concat();
+    if rng.once_in(2) {
+        received.extend(long_stretch(rng, bad));
+    } else {
+        for segment in bad {
+            received.extend(badly_hit(rng, segment));
+        }
+    }
+    if let Some((next, rest)) = behind.split_first() {
+        if rng.once_in(4) {
+            received.extend(next);
+        } else {
+            island(&mut received, next);
+        }
+        received.extend(rest.concat());
+    }
+    received
 }
 
 fn end_unknown(letters: &mut [u8]) {
@@ -649,6 +712,18 @@ pub fn damaged(rng: &mut Rng, damage: Damage, lengths: &[u16], strand: &[u8]) ->
         Damage::UnknownBehind => {
             unknown_behind(rng, lengths, &mut segments);
             received = segments.concat();
+        }
+        Damage::Neighbours => received = neighbours(rng, &segments),
+        Damage::Scattered => {
+            received.clear();
+            let rare = rng.of(&[2, 2, 3, 5]);
+            for segment in &segments {
+                if rng.once_in(rare) {
+                    island(&mut received, segment);
+                } else {
+                    received.extend(bad_stretch(rng, segment));
+                }
+            }
         }
     }
     received.truncate(2048);

@@ -70,16 +70,20 @@ impl Reading<'_> {
             .collect()
     }
 
-    /// The letters of a segment with this message.
-    fn segment(&self, i: usize, message: &[u8]) -> Vec<u8> {
-        let f = match i {
+    /// The symbol before a segment, none for the first.
+    fn before(&self, i: usize) -> Option<u8> {
+        match i {
             0 => None,
             // Behind a lost segment a scan has found the start.
             _ if is_lost(self.verdicts[i - 1]) => {
                 self.letters[..self.pieces[i].0].last().map(symbol)
             }
             _ => self.last_symbol(i - 1),
-        };
+        }
+    }
+
+    /// The letters of a segment with this message behind a symbol.
+    fn segment(&self, i: usize, f: Option<u8>, message: &[u8]) -> Vec<u8> {
         let segment = oracle::written(message, f, syndrome_length(self.lengths[i]));
         segment.into_iter().map(oracle::letter_of).collect()
     }
@@ -90,23 +94,34 @@ impl Reading<'_> {
         oracle::written(&message, None, syndrome_length(self.lengths[i])).pop()
     }
 
-    /// Whether letters are a segment with some message in this segment's place.
-    fn is_segment(&self, i: usize, letters: &[u8]) -> bool {
+    /// Whether letters are a segment with some message in this segment's place behind a symbol.
+    fn is_segment(&self, i: usize, f: Option<u8>, letters: &[u8]) -> bool {
         let marker = if i == 0 { 0 } else { 2 };
         match letters.get(marker..marker + self.lengths[i] as usize) {
-            Some(message) => self.segment(i, &symbols(message)) == letters,
+            Some(message) => self.segment(i, f, &symbols(message)) == letters,
             None => false,
         }
     }
 
-    /// Whether a clean segment stands at the start of this one's piece.
-    fn starts_clean(&self, i: usize) -> bool {
-        let start = self.pieces[i].0;
-        let n = segment_lengths(self.lengths)[i];
-        match self.letters.get(start..start + n) {
-            Some(letters) => self.is_segment(i, letters),
+    /// The start that a scan finds for a segment behind the last one lost in a step: of the starts above that one's, and within 8
+    /// letters for each segment from it on of where their lengths end, the nearest that carries a clean segment.
+    fn nearest_clean(&self, i: usize) -> Option<usize> {
+        let in_step = |&j: &usize| matches!(self.verdicts[j], Verdict::Lost { .. });
+        let lost = (0..i).rev().find(in_step)?;
+        let (above, written) = (self.pieces[lost].0 + 1, segment_lengths(self.lengths));
+        let centre = above - 1 + written[lost..i].iter().sum::<usize>();
+        let away = 8 * (i - lost);
+        let clean = |&start: &usize| match self.letters.get(start..start + written[i]) {
+            Some(letters) => {
+                let f = self.letters[..start].last().map(symbol);
+                letters[0] == letters[1] && self.is_segment(i, f, letters)
+            }
             None => false,
-        }
+        };
+        // The earlier one of two that are as near.
+        (above.max(centre - away)..=centre + away)
+            .filter(clean)
+            .min_by_key(|start| start.abs_diff(centre))
     }
 
     /// Whether the marker is whole, whether a separator is found, and whether the check agrees.
@@ -146,29 +161,29 @@ impl Reading<'_> {
         let verdict = self.verdicts[i];
         let behind_lost = i > 0 && is_lost(self.verdicts[i - 1]);
         if verdict == Verdict::NoStart {
-            let empty = self.pieces[i] == (self.letters.len(), 0);
-            return (!behind_lost || !empty).then_some("a start, or letters");
-        }
-        if i > 0 && self.verdicts[i - 1] == Verdict::NoStart {
-            return Some("a start behind a segment without");
+            // Up to the next start there are no letters.
+            let next = self.pieces.get(i + 1).map_or(self.letters.len(), |x| x.0);
+            let none = behind_lost && self.nearest_clean(i).is_none();
+            return (!none || self.pieces[i] != (next, 0)).then_some("a start, or letters");
         }
         // The last segment goes on to the strand's end.
         let last = i + 1 == self.lengths.len();
         if behind_lost && !(last || verdict == Verdict::Read(Edit::None)) {
             return Some("been found by a scan and is not clean");
         }
-        if behind_lost && !self.starts_clean(i) {
-            return Some("no clean segment at its start, behind a lost one");
+        if behind_lost && self.nearest_clean(i) != Some(self.pieces[i].0) {
+            return Some("another start, behind a lost one");
         }
         if !self.step_fits(i) {
             return Some("another step");
         }
-        let (piece, segment) = (self.piece(i), self.segment(i, &self.symbols(i)));
+        let (piece, f) = (self.piece(i), self.before(i));
+        let segment = self.segment(i, f, &self.symbols(i));
         let holds = match verdict {
             Verdict::Read(Edit::None) => piece == segment,
             Verdict::Unknown => piece.contains(&b'N') && decided(piece) == segment,
             Verdict::Read(edit) => decided(piece) != segment && smallest(edit, &segment, piece),
-            _ => !self.is_segment(i, &decided(piece)),
+            _ => !self.is_segment(i, f, &decided(piece)),
         };
         (!holds).then_some("another piece")
     }

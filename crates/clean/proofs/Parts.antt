@@ -1,6 +1,7 @@
 -- Parts of a written segment, compared symbol by symbol.
 --   Left                          the answer is that of the syndrome symbols that are not yet compared
 --   marker-seen, no-marker        the marker
+--   two-marks                     its two letters
 --   mark-fails, segment-seen      marker, and what follows the message
 use mathlib.Core.Path.{_≡_, refl, sym, ap, _∙_}
 use mathlib.Core.Bool.{Bool, true, false, true≢false, _&&_}
@@ -98,6 +99,17 @@ module _ (marked : Bool) (f p : ℕ) (s : List ℕ) where
       let first : getD (drop 2 (drop p s)) 0 0 ≡ getD s (p + 2) 0 = getD-drop 2 (drop p s) 0 0 ∙ getD-drop p s 2 0 in
       let second : getD (drop 2 (drop p s)) 1 0 ≡ getD s (p + 3) 0 = getD-drop 2 (drop p s) 1 0 ∙ getD-drop p s 3 0 in
       rw (e, first, second, ← is) h
+
+  -- the two letters of the marker
+  module _ (room : p + 2 ≤ length s) (m : ℕ) where
+    marks : isPrefix (m ∷ m ∷ []) (drop p s) ≡ (eqb m (getD s p 0) && (eqb m (getD s (suc p) 0) && true))
+    unfolding isPrefix
+    marks = rw (drop-cons s p 0 (omega arith), drop-cons s (suc p) 0 (omega arith))
+
+    pub two-marks : (eqb m (getD s p 0) && eqb m (getD s (p + 1) 0)) ≡ isPrefix (m ∷ m ∷ []) (drop p s)
+    two-marks =
+        let q : p + 1 ≡ suc p = omega arith in
+        sym (marks ∙ rw (q, and-true (eqb m (getD s (suc p) 0))))
 
   pub no-marker : marked ≡ false → true ≡ isPrefix (mark marked f D) (drop p s)
   unfolding mark isPrefix

@@ -44,7 +44,7 @@ pub fn marker_stands(s: &[u8], p: usize, marked: bool, f: u8) -> bool
 {
     if marked {
         let m = sep_of(f, s[p + 2], s[p + 3]);
-        return stands_at(&[m, m], s, p);
+        return (m == s[p]) & (m == s[p + 1]);
     }
     true
 }

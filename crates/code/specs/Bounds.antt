@@ -2,8 +2,6 @@
 --   longest    the most symbols of a message
 --   widest     the most symbols of a syndrome
 --   reach      every place that is looked at is below it
---   farthest   the farthest that a place is moved
---   mostMoves  how many places that gives
 --   Length     a message's length
 --   Received   received symbols
 --   Start      where a segment starts, with the symbol before it
@@ -24,13 +22,6 @@ widest = 16
 -- every place that is looked at is below it
 abbrev pub reach : ℕ
 reach = 65536
-
--- the farthest that a place is moved, and how many places that gives: moved by 0, and by 1 and more to each side
-abbrev pub farthest : ℕ
-farthest = 8
-
-abbrev pub mostMoves : ℕ
-mostMoves = 17
 
 -- k is the length of a message
 abbrev pub Length : ℕ → Type 0

@@ -20,6 +20,7 @@ pub mod WithoutUnknown
 pub mod Sheet
 pub mod Conditions
 pub mod Demand3
+pub mod LaterSegments
 pub mod ReadCall
 pub mod ReadDemand
 pub mod Ascii

@@ -18,7 +18,7 @@ use Rattle.code.specs.Edits.{same, firstEdit, judged}
 use Rattle.code.specs.Reading.{isPrefix, twoEqual, threeEqual, separatorAt, checkAgrees, syndromeAgrees}
 use Rattle.code.specs.Reading.{repaired, messageAt, messageWithout, readMessage, clean, endOf, readSegment}
 use Rattle.code.specs.Sheet.{marksOf, sheetOf}
-use Rattle.code.specs.Strands.{above, pairs, firstStart, scan, reading, outcomes, messagesOf, verdictsOf}
+use Rattle.code.specs.Strands.{above, pairs, tries, firstStanding, scan, reading, outcomes, messagesOf, verdictsOf}
 
 -- a row: what is given, and what it must come to
 pub data Row : Type 0 where
@@ -74,5 +74,5 @@ pub rows-hold : (r : Row) → List·Memᴰ r rows → T (holds r)
 unfolding every holds inBits fromBits allAre bytes symbols legible bits number width syndrome pair ones sumOfPlaces sumFrom firstPower flips lefts
     puts linked firstWith repair total check sep syndromeOf separator marker block segment lastOf size cut joined written extent strandOf same
     firstEdit judged isPrefix twoEqual threeEqual separatorAt checkAgrees syndromeAgrees repaired messageAt messageWithout readMessage clean endOf
-    readSegment above pairs firstStart scan reading asSymbols hasUnknown
+    readSegment above pairs tries firstStanding scan reading asSymbols hasUnknown
 rows-hold = of-every rows tt

@@ -1,14 +1,15 @@
 -- Reading a whole strand (SPECIFICATION.md, section 4): step 10, and what the outcomes of the segments tell.
---   tries      the starts of a scan, from P
---   scan       step 10
+--   window     the starts about a centre, from P
+--   tries      what a scan tries, in order
+--   scan       step 10: which later segment stands where
 --   told       what is said of a segment, by its piece
 --   Outcome    what is found of a segment
 --   reading    the outcomes of all segments of a layout
 --   verdictsOf what is said of the segments
 use mathlib.Core.Bool.{Bool, true, false, cond}
-use mathlib.Core.List.{List, [], _∷_, map}
+use mathlib.Core.List.{List, [], _∷_, _++_, map}
 use mathlib.Core.Option.{Option, some, none}
-use Prim.Native.Nat.{ℕ, zero, suc, _+_, _-_}
+use Prim.Native.Nat.{ℕ, zero, suc, _+_, _-_, _*_}
 use lib.Dec.{ltb}
 use lib.ListN.{getD, take, drop, replicate}
 use Rattle.code.specs.Symbols.{asSymbols, hasUnknown}
@@ -29,19 +30,37 @@ unfoldable pub pairs : ℕ → ℕ → ℕ → List ℕ
 pairs n d zero = []
 pairs n d (suc c) = (n - d) ∷ (n + d) ∷ pairs n (suc d) c
 
--- the starts of a scan, from P: n + d above 0, with d = 0, −1, +1, and on to −8, +8
-abbrev pub tries : ℕ → List ℕ
-tries n = above (n ∷ pairs n 1 8)
+-- the starts of a window about n, from P: n + d above 0, with d = 0, −1, +1, and on to −c, +c
+abbrev pub window : ℕ → ℕ → List ℕ
+window n c = above (n ∷ pairs n 1 c)
 
--- the first start where a clean segment of k message symbols stands, f being the received symbol before it
-unfoldable pub firstStart : ℕ → List ℕ → List ℕ → List ℕ → Option ℕ
-firstStart k s letters [] = none
-firstStart k s letters (o ∷ os) = cond (clean k (getD s (o - 1) 0) (drop o s) (drop o letters)) (some o) (firstStart k s letters os)
+-- a start that is tried: how many segments are passed, the length of the one sought, and the start, from P
+pub record Try : Type 0 where
+  pub passed : ℕ
+  pub sought : ℕ
+  pub start : ℕ
 
--- step 10: where reading goes on behind a lost segment of length n, if another follows
-unfoldable pub scan : ℕ → List ℕ → List ℕ → List ℕ → Option ℕ
-scan n [] s letters = none
-scan n (k ∷ ks) s letters = firstStart k s letters (tries n)
+abbrev pub tryAt : ℕ → ℕ → ℕ → Try
+tryAt passed k o = record { passed = passed; sought = k; start = o }
+
+-- what is tried for the segments of the lengths ks, n being the centre of the first of them: its window, 8 to each side and 8 more for each
+-- segment that is passed; then those behind it, a segment further on
+unfoldable pub tries : ℕ → ℕ → List ℕ → List Try
+tries passed n [] = []
+tries passed n (k ∷ ks) = map (tryAt passed k) (window n (8 * (passed + 1))) ++ tries (passed + 1) (n + size true k) ks
+
+-- a clean segment of the length sought stands at the start, f being the received symbol before it
+abbrev pub stands : List ℕ → List ℕ → Try → Bool
+stands s letters t = clean (t .sought) (getD s (t .start - 1) 0) (drop (t .start) s) (drop (t .start) letters)
+
+-- the first try that stands
+unfoldable pub firstStanding : List ℕ → List ℕ → List Try → Option Try
+firstStanding s letters [] = none
+firstStanding s letters (t ∷ ts) = cond (stands s letters t) (some t) (firstStanding s letters ts)
+
+-- step 10: which segment stands where behind a lost one of length n, if any; ks are the lengths behind it
+unfoldable pub scan : ℕ → List ℕ → List ℕ → List ℕ → Option Try
+scan n ks s letters = firstStanding s letters (tries 0 n ks)
 
 -- a piece with an N is never clean: where it is read with no edit, unknown is said of its segment
 abbrev pub told : Verdict → List ℕ → Verdict
@@ -67,24 +86,32 @@ lostOutcome piece k v = record { piece = piece; message = replicate k 0; verdict
 abbrev pub unfound : ℕ → Outcome
 unfound k = lostOutcome [] k NoStart
 
--- a lost segment, and those after it: from the start that the scan found, or lost too
-abbrev pub lostAndRest : ℕ → List ℕ → List ℕ → List ℕ → ℕ → (ℕ → ℕ → List Outcome) → Option ℕ → List Outcome
-lostAndRest k ks s letters step next (some o) = lostOutcome (take o letters) k (Lost step) ∷ next (getD s (o - 1) 0) o
+-- a lost segment, and those after it: passed and then from the start that the scan found, or lost too; `next` reads them from how many are passed,
+-- f and the start, counted from P
+abbrev pub lostAndRest : ℕ → List ℕ → List ℕ → List ℕ → ℕ → (ℕ → ℕ → ℕ → List Outcome) → Option Try → List Outcome
+lostAndRest k ks s letters step next (some t) = lostOutcome (take (t .start) letters) k (Lost step) ∷ next (t .passed) (getD s (t .start - 1) 0) (t .start)
 lostAndRest k ks s letters step next none = lostOutcome letters k (Lost step) ∷ map unfound ks
 
--- a segment and those after it; `next` reads these from f and the start, counted from P
-abbrev pub segmentAndRest : Bool → ℕ → List ℕ → List ℕ → List ℕ → (ℕ → ℕ → List Outcome) → SegmentResult → List Outcome
-segmentAndRest marked k ks s letters next (read m e o) = record { piece = take o letters; message = m; verdict = told (Read e) (take o letters) } ∷ next (lastOf m) o
-segmentAndRest marked k ks s letters next (lost step) = lostAndRest k ks s letters step next (scan (size marked k) ks s letters)
+-- a segment and those after it; `found` is what a scan behind it finds
+abbrev pub segmentAndRest : ℕ → List ℕ → List ℕ → List ℕ → (ℕ → ℕ → ℕ → List Outcome) → Option Try → SegmentResult → List Outcome
+segmentAndRest k ks s letters next found (read m e o) = record { piece = take o letters; message = m; verdict = told (Read e) (take o letters) } ∷ next 0 (lastOf m) o
+segmentAndRest k ks s letters next found (lost step) = lostAndRest k ks s letters step next found
 
--- the outcomes of the segments of a layout, from the left
-unfoldable pub reading : Bool → ℕ → List ℕ → List ℕ → List ℕ → List Outcome
-reading marked f [] s letters = []
-reading marked f (k ∷ ks) s letters = segmentAndRest marked k ks s letters (λ g o. reading true g ks (drop o s) (drop o letters)) (readSegment marked f k ks s letters)
+-- what behind a lost segment of length n is found, ks being the lengths behind it
+abbrev pub Scan : Type 0
+Scan = ℕ → List ℕ → List ℕ → List ℕ → Option Try
+
+-- the outcomes of the segments of a layout, from the left, by a scan; the first `passed` of them are lost for want of a start
+unfoldable pub reading : Scan → ℕ → Bool → ℕ → List ℕ → List ℕ → List ℕ → List Outcome
+reading look passed marked f [] s letters = []
+reading look (suc passed) marked f (k ∷ ks) s letters = unfound k ∷ reading look passed true f ks s letters
+reading look zero marked f (k ∷ ks) s letters =
+    segmentAndRest k ks s letters (λ n g o. reading look n true g ks (drop o s) (drop o letters)) (look (size marked k) ks s letters)
+    (readSegment marked f k ks s letters)
 
 -- the outcomes of the received letters of a strand, whose first segment has no marker
 abbrev pub outcomes : List ℕ → List ℕ → List Outcome
-outcomes ks letters = reading false 0 ks (asSymbols letters) letters
+outcomes ks letters = reading scan 0 false 0 ks (asSymbols letters) letters
 
 -- the symbols that the outcomes give
 abbrev pub messagesOf : List Outcome → List ℕ

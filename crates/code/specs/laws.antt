@@ -33,10 +33,13 @@ pub mod CleanLetters
 pub mod WithinLimits
 pub mod ReceivedSegment
 pub mod ReadSegment
+pub mod Scan
 pub mod Strands
 pub mod WithoutUnknown
 pub mod Regained
 pub mod Demand3
+pub mod LostSegments
+pub mod LaterSegments
 pub mod MessageLengths
 pub mod MessageBelow
 pub mod LostSteps

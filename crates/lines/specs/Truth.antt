@@ -7,7 +7,7 @@
 --   Turns            an edit, with its letter, turns a segment into a piece
 --   Says             what a verdict says
 --   True-of          what is reported of one segment is true
---   siteBehind       where the next segment starts, if a start is found
+--   onwardBehind     where reading goes on behind a segment
 --   True-from        what is reported of all segments is true
 --   True-lines       the theorem
 --   Apart-lines      two different verdicts never give the same line
@@ -16,7 +16,7 @@ use mathlib.Core.Bool.{Bool, true, false}
 use mathlib.Core.List.{List, [], _∷_}
 use mathlib.Core.Logic.{_⊎_}
 use mathlib.Core.Option.{Option, some, none}
-use Prim.Native.Nat.{ℕ, _-_, _<_, _≤_}
+use Prim.Native.Nat.{ℕ, zero, suc, _-_, _<_, _≤_}
 use lib.ListN.{length, getD, take, drop}
 use Rattle.code.specs.Symbols.{Below, letterKinds, asSymbols, hasUnknown}
 use Rattle.code.specs.Layers.{Word, layer, width, number, syndrome}
@@ -25,7 +25,7 @@ use Rattle.code.specs.Segment.{segment, lastOf, dataAt, size}
 use Rattle.code.specs.Layout.{Lengths}
 use Rattle.code.specs.Edits.{applied, placeOf, Fits}
 use Rattle.code.specs.Reading.{Shift, moved, whole, separatorAt, afterSeparator, checkAgrees, linkOf, taken, message, readMessage, clean, settled, endOf}
-use Rattle.code.specs.Strands.{Outcome, scan, outcomes}
+use Rattle.code.specs.Strands.{Try, scan, Outcome, outcomes}
 use Rattle.code.specs.declared.Edit.{Edit}
 use Rattle.code.specs.declared.Edit.the-variants.{None, Sub, Del, Ins}
 use Rattle.code.specs.declared.Verdict.{Verdict}
@@ -149,33 +149,39 @@ pub record True-of (p : Site) (k : ℕ) (ks : List ℕ) (o : Outcome) : Type 0 w
 abbrev pub siteAt : Site → ℕ → ℕ → Site
 siteAt p f o = record { marked = true; f = f; letters = drop o (p .letters) }
 
--- where a scan found a start, f being the received symbol before it
-abbrev pub siteFound : Site → Option ℕ → Option Site
-siteFound p (some o) = some (siteAt p (getD (symbolsAt p) (o - 1) 0) o)
-siteFound p none = none
+-- where reading goes on: so many segments are passed and the next one starts at a site, or nowhere
+pub data Onward : Type 0 where
+  at : ℕ → Site → Onward
+  nowhere : Onward
 
--- where the next segment starts: at the end of a piece that was read, f being the last symbol of its message's segment; behind a lost one where the
--- scan of step 10 found a start; else nowhere
-abbrev pub siteBehind : Site → ℕ → List ℕ → Outcome → Verdict → Option Site
-siteBehind p k ks o (Read e) = some (siteAt p (lastOf (o .message)) (length (o .piece)))
-siteBehind p k ks o Unknown = some (siteAt p (lastOf (o .message)) (length (o .piece)))
-siteBehind p k ks o (Lost step) = siteFound p (scan (size (p .marked) k) ks (symbolsAt p) (p .letters))
-siteBehind p k ks o NoStart = none
+-- where a scan found a segment, f being the received symbol before it
+abbrev pub onwardFound : Site → Option Try → Onward
+onwardFound p (some t) = at (t .passed) (siteAt p (getD (symbolsAt p) (t .start - 1) 0) (t .start))
+onwardFound p none = nowhere
 
--- what is reported of the segments of a layout is true, the first of them starting at a site or nowhere; `lost start` is said exactly of those for
--- which no start was found
-abbrev pub True-from : Option Site → List ℕ → List Outcome → Type 0
-True-from site [] [] = Unit {0}
-True-from site [] (o ∷ os) = ⊥
-True-from site (k ∷ ks) [] = ⊥
-True-from (some p) (k ∷ ks) (o ∷ os) = True-of p k ks o × True-from (siteBehind p k ks o (o .verdict)) ks os
-True-from none (k ∷ ks) (o ∷ os) = (reported o ≡ NoStart) × (o .piece ≡ []) × True-from none ks os
+-- where reading goes on: at the end of a piece that was read, f being the last symbol of its message's segment; behind a lost one where the scan of
+-- step 10 found a segment; else nowhere
+abbrev pub onwardBehind : Site → ℕ → List ℕ → Outcome → Verdict → Onward
+onwardBehind p k ks o (Read e) = at 0 (siteAt p (lastOf (o .message)) (length (o .piece)))
+onwardBehind p k ks o Unknown = at 0 (siteAt p (lastOf (o .message)) (length (o .piece)))
+onwardBehind p k ks o (Lost step) = onwardFound p (scan (size (p .marked) k) ks (symbolsAt p) (p .letters))
+onwardBehind p k ks o NoStart = nowhere
+
+-- what is reported of the segments of a layout is true, reading going on at a site or nowhere; `lost start` is said exactly of those that are passed
+-- or for which no start was found
+abbrev pub True-from : Onward → List ℕ → List Outcome → Type 0
+True-from x [] [] = Unit {0}
+True-from x [] (o ∷ os) = ⊥
+True-from x (k ∷ ks) [] = ⊥
+True-from (at zero p) (k ∷ ks) (o ∷ os) = True-of p k ks o × True-from (onwardBehind p k ks o (o .verdict)) ks os
+True-from (at (suc n) p) (k ∷ ks) (o ∷ os) = (reported o ≡ NoStart) × (o .piece ≡ []) × True-from (at n p) ks os
+True-from nowhere (k ∷ ks) (o ∷ os) = (reported o ≡ NoStart) × (o .piece ≡ []) × True-from nowhere ks os
 
 -- for every layout and all received letters: every line is true
 abbrev pub True-lines : Type 0
 True-lines =
     (most : ℕ) (ks letters : List ℕ) → Lengths most ks → Below letterKinds letters
-    → True-from (some (record { marked = false; f = 0; letters = letters })) ks (outcomes ks letters)
+    → True-from (at 0 (record { marked = false; f = 0; letters = letters })) ks (outcomes ks letters)
 
 -- the letter of an edit is one
 abbrev pub Lettered : Verdict → Type 0

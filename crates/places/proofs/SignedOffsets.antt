@@ -41,7 +41,7 @@ module _ (i : ℕ) (half-fits : SFits w64 (pos (i / 2))) where
     odd-offset = toZ-ofZ {w = w64} odd-fits ∙ odd-made
 
 -- a place and the i-th signed number
-module _ (n i : ℕ) (given : (i < 17) × ((i + 1) / 2 ≤ n) × (n < reach)) where
+module _ (n i : ℕ) (given : (i < reach) × ((i + 1) / 2 ≤ n) × (n < reach)) where
   added : pos n +ℤ offsetOf i ≡ pos (triedAt n i)
   added = go (eqb (i % 2) 0) refl
     where
@@ -63,13 +63,13 @@ module _ (n i : ℕ) (given : (i < 17) × ((i + 1) / 2 ≤ n) × (n < reach)) wh
         added
 
     pub sum-fits : SFits w64 sum
-    sum-fits = rw sum-is (record { sfits = omega (arith, tried-small n i (given .0)) })
+    sum-fits = rw sum-is (record { sfits = omega (arith, tried-small n i) })
 
     place : toZ w64 (ofZ w64 sum) ≡ pos (triedAt n i)
     place = toZ-ofZ {w = w64} sum-fits ∙ sum-is
 
     pub place-unsigned : T (nonNeg (toZ w64 (ofZ w64 sum))) × Fits w64 (natAbs (toZ w64 (ofZ w64 sum)))
-    place-unsigned = rw place (tt, record { fits = omega (arith, tried-small n i (given .0)) })
+    place-unsigned = rw place (tt, record { fits = omega (arith, tried-small n i) })
 
     pub place-is : natAbs (toZ w64 (ofZ w64 sum)) ≡ triedAt n i
     place-is = rw place

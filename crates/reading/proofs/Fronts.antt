@@ -25,7 +25,7 @@ use Rattle.code.specs.Sheet.{marksOf}
 use Rattle.code.specs.Strands.{Outcome, outcomes, messagesOf, verdictsOf}
 use Rattle.code.specs.Verdicts.{verdictNumber}
 use Rattle.code.specs.Buffers.{overFront}
-use Rattle.code.specs.laws.Strands.{length-reading}
+use Rattle.code.specs.laws.Strands.{length-outcomes}
 use Rattle.code.specs.laws.MessageLengths.{length-messages}
 use Rattle.reading.specs.Walks.{endsFrom}
 
@@ -79,10 +79,10 @@ module _ (o : Order) (t : Taken o) where
     os = outcomes (o .lengths) letters
 
     pub messages-length : length (messagesOf os) ≡ 4 * o .b
-    messages-length = length-messages false 0 (o .lengths) (asSymbols letters) letters (order-fine o false t .lengths) ∙ order-fine o false t .whole
+    messages-length = length-messages (o .lengths) letters (order-fine o false t .lengths) ∙ order-fine o false t .whole
 
     outcomes-length : length os ≡ length (o .lengths)
-    outcomes-length = length-reading false 0 (o .lengths) (asSymbols letters) letters
+    outcomes-length = length-outcomes (o .lengths) letters
 
     pub numbers-length : length (map verdictNumber (verdictsOf os)) ≡ length (o .lengths)
     numbers-length = simp length-map outcomes-length

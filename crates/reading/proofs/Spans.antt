@@ -4,17 +4,14 @@
 --   span-start   where it starts
 --   span-inside  it ends inside the letters
 --   ends-array   how long that array is
---   all-letters  the pieces joined
 use mathlib.Core.Path.{_≡_, refl, sym, ap, _∙_}
-use mathlib.Core.Bool.{false}
 use mathlib.Core.List.{List, [], _∷_, _++_}
 use Prim.Native.Nat.{ℕ, zero, suc, _+_, _≤_, _<_}
 use native.Mathlib.Omega.{arith}
 use lib.ListN.{length, getD, drop, replicate, length-append, length-drop, List·getD-append}
-use Rattle.code.specs.Symbols.{asSymbols}
 use Rattle.code.specs.Layout.{sum, joined}
 use Rattle.code.specs.Strands.{Outcome, outcomes}
-use Rattle.code.specs.laws.Strands.{length-reading, joined-pieces}
+use Rattle.code.specs.laws.Strands.{length-outcomes, joined-pieces}
 use Rattle.code.specs.ReadCall.{piecesOf, pieceStart, pieceLength}
 use Rattle.reading.specs.Walks.{endsFrom, startIn}
 use Rattle.reading.proofs.Fronts.{length-ends}
@@ -42,24 +39,19 @@ start-behind [] (suc i) = refl
 start-behind (o ∷ os) zero = omega arith
 start-behind (o ∷ os) (suc i) = omega (arith, start-behind os i)
 
--- the pieces of a layout with a segment, joined, are all letters
-pub all-letters : (ks letters : List ℕ) → 0 < length ks → joined (piecesOf (outcomes ks letters)) ≡ letters
-all-letters [] letters h = absurd (omega arith)
-all-letters (k ∷ ks) letters h = joined-pieces false 0 k ks (asSymbols letters) letters
-
 module _ (ks letters ends : List ℕ) (e : ends ≡ endsFrom 0 (outcomes ks letters)) where
   abbrev os : List Outcome
   os = outcomes ks letters
 
   -- there is an end for each segment
   pub ends-count : length ends ≡ length ks
-  ends-count = ap length e ∙ length-ends 0 os ∙ length-reading false 0 ks (asSymbols letters) letters
+  ends-count = ap length e ∙ length-ends 0 os ∙ length-outcomes ks letters
 
   -- r stands behind the ends in their array
   module _ (r : List ℕ) where
     pub span-end : (i : ℕ) → i < length ks → getD (ends ++ r) i 0 ≡ pieceStart os i + pieceLength os i
     span-end i h =
-        let n = length-reading false 0 ks (asSymbols letters) letters in
+        let n = length-outcomes ks letters in
         List·getD-append ends r 0 i (omega (arith, ends-count)) ∙ ap (λ (w : List ℕ). getD w i 0) e ∙ omega (arith, ends-at 0 os i (omega arith))
 
     pub span-start : (i : ℕ) → i < length ks → startIn (ends ++ r) i ≡ pieceStart os i
@@ -68,7 +60,7 @@ module _ (ks letters ends : List ℕ) (e : ends ≡ endsFrom 0 (outcomes ks lett
     span-start (suc i) h = span-end i (omega arith) ∙ sym (start-behind os i)
 
     pub span-inside : (i : ℕ) → i < length ks → getD (ends ++ r) i 0 ≤ length letters
-    span-inside i h = omega (arith, span-end i h, ends-inside os i, ap length (all-letters ks letters (omega arith)))
+    span-inside i h = omega (arith, span-end i h, ends-inside os i, ap length (joined-pieces ks letters (omega arith)))
 
     -- the array of 64 that they stand in
     pub ends-array : length ks ≤ 64 → r ≡ drop (length ks) (replicate 64 0) → length (ends ++ r) ≡ 64

@@ -1,5 +1,4 @@
 -- The walk over a layout: what stands, followed by what is to come, is the whole.
---   first-length                         the first of some lengths, and those behind it
 --   Walk                                 how far the walk has come
 --   walk-begin                           it holds at the start
 --   walk-small, walk-inside, walk-room   the next segment is there, and its message has room
@@ -12,12 +11,12 @@ use mathlib.Core.Path.{_≡_, refl, sym, ap, _∙_}
 use mathlib.Core.Bool.{Bool, true, false, not}
 use mathlib.Core.List.{List, [], _∷_, _++_, map, append-assoc, append-nil}
 use mathlib.Core.Option.{Option, some, none}
-use Prim.Native.Nat.{ℕ, suc, _+_, _-_, _≤_, _<_}
+use Prim.Native.Nat.{ℕ, _+_, _-_, _≤_, _<_}
 use native.Mathlib.Numerals.{add-one}
 use native.Mathlib.Omega.{arith}
 use borrow.Author.Tests.{ne-eqb}
 use lib.Dec.{eqb}
-use lib.ListN.{length, getD, take, drop, set, length-drop, length-set}
+use lib.ListN.{length, take, drop, set, length-drop, length-set}
 use lib.Seq.{drop-drop, take-all, take-suc-set, length-take-le}
 use Rattle.code.specs.Buffers.{putAt}
 use Rattle.code.specs.laws.Lists.{take-put, length-put}
@@ -32,7 +31,7 @@ use Rattle.code.specs.Verdicts.{verdictNumber, verdictOf, Numbered}
 use Rattle.code.specs.laws.Verdicts.{verdict-back}
 use Rattle.scan.specs.declared.Next.{Next}
 use Rattle.scan.specs.declared.Next.the-variants.{At, Clean, Nowhere}
-use Rattle.scan.specs.Scans.{startOf, nextPlace, Known}
+use Rattle.scan.specs.Scans.{Ahead, startOf, nextPlace, Known}
 use Rattle.steps.specs.declared.Answer.{Answer}
 use Rattle.steps.specs.Steps.{Step, stepOf, going, Marked, IsStep}
 use Rattle.steps.specs.laws.Steps.{going-step, step-length, step-end, step-piece, step-numbered, startPlace, place-start, place-inside}
@@ -46,21 +45,16 @@ part-put a n d y b e h =
     let q : a + n - a ≡ length b = omega arith in
     rw (e, q, drop-drop (length b) a d) (sym (append-assoc (take a d) b (drop (a + length b) d)))
 
--- the first of some lengths, and those behind it as a part
-pub first-length : (ks : List ℕ) → 0 < length ks → ks ≡ getD ks 0 0 ∷ take (length ks - 1) (drop 1 ks)
-first-length [] h = absurd (omega arith)
-first-length (k ∷ ks) h = let e : suc (length ks) - 1 ≡ length ks = omega arith in rw e (ap (_∷_ k) (sym (take-all (length ks) ks (omega arith))))
-
 length-of : {most k : ℕ} {ks : List ℕ} → Lengths most (k ∷ ks) → (leastLength ≤ k) × (k ≤ most) × Lengths most ks
 length-of (more h m hs) = (h, m, hs)
 
 -- behind the first segment a start may be known to be clean
 marked-behind : (next : Next) → Marked next true
 marked-behind (At p f) = tt
-marked-behind (Clean p f) = refl
+marked-behind (Clean p f n) = refl
 marked-behind Nowhere = tt
 
-nothing-left : (x : Option (ℕ × ℕ)) (marked : Bool) (s letters : List ℕ) → going x marked [] s letters ≡ []
+nothing-left : (x : Option Ahead) (marked : Bool) (s letters : List ℕ) → going x marked [] s letters ≡ []
 unfolding going reading
 nothing-left (some x) marked s letters = refl
 nothing-left none marked s letters = refl
@@ -170,7 +164,7 @@ module _ (ks s letters : List ℕ) where
 
         end-is : place (r .next) ≡ place next + length (t .outcome .piece)
         end-is =
-            let e : place (r .next) ≡ startPlace (t .next) (length s) = ap (λ (x : Option (ℕ × ℕ)). startPlace x (length s)) (is-step .next) in
+            let e : place (r .next) ≡ startPlace (t .next) (length s) = ap (λ (x : Option Ahead). startPlace x (length s)) (is-step .next) in
             e ∙ step-end marked k behind s letters same (startOf next) (place-inside s letters rest next (w .known)) (omega (arith, e, place-inside s letters behind (r .next) (is-step .known)))
 
         -- the piece ends at `end`
@@ -184,7 +178,7 @@ module _ (ks s letters : List ℕ) where
 
           piece-is : t .outcome .piece ≡ take (end - from) (drop from letters)
           piece-is =
-              let e : place (r .next) ≡ startPlace (t .next) (length s) = ap (λ (x : Option (ℕ × ℕ)). startPlace x (length s)) (is-step .next) in
+              let e : place (r .next) ≡ startPlace (t .next) (length s) = ap (λ (x : Option Ahead). startPlace x (length s)) (is-step .next) in
               rw (w .from-is, end-place, e) (step-piece marked k behind s letters same (startOf next))
 
           -- letters without an N have a piece without one

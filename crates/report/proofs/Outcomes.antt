@@ -3,25 +3,24 @@
 --   Reports, found-reports   the verdicts of all segments
 --   Stands, found-at         the verdict of one
 use mathlib.Core.Path.{_≡_, refl, sym, ap, _∙_}
-use mathlib.Core.Bool.{false}
 use mathlib.Core.List.{List, [], _∷_, _++_, map}
 use Prim.Native.Nat.{ℕ, zero, suc, _+_, _-_, _≤_, _<_}
 use native.Mathlib.Omega.{arith}
 use lib.ListN.{length, getD, take, drop, length-append, length-map, length-take, length-drop}
 use lib.Seq.{length-take-le, take-at, drop-at, drop-drop, getD-take}
-use Rattle.code.specs.Symbols.{Below, letterKinds, asSymbols}
+use Rattle.code.specs.Symbols.{Below, letterKinds}
 use Rattle.code.specs.Layout.{Lengths, joined}
 use Rattle.code.specs.Bounds.{longest}
 use Rattle.code.specs.Verdicts.{verdictNumber, verdictOf}
 use Rattle.code.specs.laws.Verdicts.{verdict-back, AllNumbered, outcomes-numbered}
 use Rattle.code.specs.Strands.{Outcome, outcomes, verdictsOf}
-use Rattle.code.specs.laws.Strands.{length-reading}
+use Rattle.code.specs.laws.Strands.{length-outcomes, joined-pieces}
 use Rattle.code.specs.ReadCall.{piecesOf}
 use Rattle.code.specs.declared.Verdict.{Verdict}
 use Rattle.code.specs.declared.Verdict.the-variants.{NoStart}
 use Rattle.reading.specs.Walks.{endsFrom, Found, startIn}
 use Rattle.reading.proofs.Fronts.{length-ends}
-use Rattle.reading.proofs.Spans.{ends-count, all-letters}
+use Rattle.reading.proofs.Spans.{ends-count}
 use Rattle.lines.specs.Report.{inLetters, reported}
 use Rattle.report.specs.Walked.{Inside, part, reportedFrom, Reportable}
 use Rattle.report.specs.laws.Named.{AllName, outcomes-name}
@@ -88,7 +87,7 @@ pub record Fronts (ks letters verdicts ends : List ℕ) : Type 0 where
 
 pub in-front : (ks letters verdicts ends r q : List ℕ) → Found ks letters verdicts ends → Fronts ks letters (verdicts ++ r) (ends ++ q)
 in-front ks letters verdicts ends r q f =
-    let m : length (map verdictNumber (verdictsOf (outcomes ks letters))) ≡ length ks = simp length-map (length-reading false 0 ks (asSymbols letters) letters) in
+    let m : length (map verdictNumber (verdictsOf (outcomes ks letters))) ≡ length ks = simp length-map (length-outcomes ks letters) in
     record {
       numbers = take-at verdicts r (length ks) (ap length (f .numbers) ∙ m) ∙ f .numbers;
       places = take-at ends q (length ks) (ends-count ks letters ends (f .places)) ∙ f .places;
@@ -109,18 +108,18 @@ module _ (ks letters verdicts ends : List ℕ) (lengths : Lengths longest ks) (l
   pub found-reports : 0 < length ks → Reports
   found-reports h =
       record {
-        are = rw (f .numbers, f .places) (walk-reports letters 0 os (all-letters ks letters h) numbered);
-        reportable = rw (f .numbers, f .places) (walk-reportable letters 0 os (omega arith) (all-letters ks letters h) numbered (outcomes-name ks letters lengths legible));
+        are = rw (f .numbers, f .places) (walk-reports letters 0 os (joined-pieces ks letters h) numbered);
+        reportable = rw (f .numbers, f .places) (walk-reportable letters 0 os (omega arith) (joined-pieces ks letters h) numbered (outcomes-name ks letters lengths legible));
       }
 
   -- the arrays have a number and an end for each segment
   pub numbers-long : length ks ≤ length verdicts
   numbers-long =
       let n : length (map verdictNumber (verdictsOf os)) ≡ length os = simp length-map in
-      omega (arith, length-take (length ks) verdicts, ap length (f .numbers), n, length-reading false 0 ks (asSymbols letters) letters)
+      omega (arith, length-take (length ks) verdicts, ap length (f .numbers), n, length-outcomes ks letters)
 
   pub places-long : length ks ≤ length ends
-  places-long = omega (arith, length-take (length ks) ends, ap length (f .places), length-ends 0 os, length-reading false 0 ks (asSymbols letters) letters)
+  places-long = omega (arith, length-take (length ks) ends, ap length (f .places), length-ends 0 os, length-outcomes ks letters)
 
   pub found-at : (i : ℕ) → i < length ks → Stands letters (map reported os) i (getD verdicts i 0) (startIn ends i) (getD ends i 0)
   found-at i h =

@@ -10,7 +10,7 @@ use native.Mathlib.Omega.{arith}
 use lib.ListN.{length, drop, length-drop}
 use lib.Seq.{drop-drop}
 use Rattle.code.specs.Limits.{mostLetters}
-use Rattle.code.specs.Bounds.{farthest, Length}
+use Rattle.code.specs.Bounds.{Length}
 use Rattle.code.specs.Symbols.{asSymbols}
 use Rattle.code.specs.laws.Letters.{length-as, as-below}
 use Rattle.code.specs.laws.Below.{below-drop}
@@ -22,7 +22,7 @@ use Rattle.scan.specs.Scans.{firstClean, letterBefore, cleanFrom, search
 use Rattle.scan.specs.laws.Scans.{clean-short, letter-below}
 
 -- a segment's size is one that the search takes
-pub size-room : (marked : Bool) (k : ℕ) → Length k → (farthest ≤ size marked k) × (size marked k ≤ mostLetters)
+pub size-room : (marked : Bool) (k : ℕ) → Length k → (8 ≤ size marked k) × (size marked k ≤ mostLetters)
 unfolding size
 size-room true k h = (omega (arith, width-two k (h .0)), omega (arith, width-least k .least 16 (omega arith)))
 size-room false k h = (omega (arith, width-two k (h .0)), omega (arith, width-least k .least 16 (omega arith)))
@@ -50,7 +50,7 @@ first-inside k g s letters os same o e = omega (arith, clean-inside k (g o) s le
 
 -- The answer of a search
 
-module _ (received : Bool) (f k p : ℕ) (os letters : List ℕ) where
+module _ (received : Bool) (f k passed p : ℕ) (os letters : List ℕ) where
   abbrev S : List ℕ
   S = drop p (asSymbols letters)
 
@@ -58,22 +58,22 @@ module _ (received : Bool) (f k p : ℕ) (os letters : List ℕ) where
   g = letterBefore received f S
 
   -- the start that it names
-  pub searched-start : startOf (searched received f k p os letters) ≡ startFrom p g (firstClean k g S (drop p letters) os)
+  pub searched-start : startOf (searched received f k passed p os letters) ≡ startFrom passed p g (firstClean k g S (drop p letters) os)
   searched-start = go (firstClean k g S (drop p letters) os)
     where
-      go : (x : Option ℕ) → startOf (cleanFrom p g x) ≡ startFrom p g x
+      go : (x : Option ℕ) → startOf (cleanFrom passed p g x) ≡ startFrom passed p g x
       go (some o) = refl
       go none = refl
 
-  -- what holds of it
-  pub searched-known : f < 4 → p ≤ length letters → (ks : List ℕ) → Known (asSymbols letters) letters (k ∷ ks) (searched received f k p os letters)
-  searched-known symbol inside ks = go (firstClean k g S (drop p letters) os) refl
+  -- what holds of it, k being the length behind those that are passed
+  pub searched-known : f < 4 → p ≤ length letters → (ks later : List ℕ) → drop passed ks ≡ k ∷ later → Known (asSymbols letters) letters ks (searched received f k passed p os letters)
+  searched-known symbol inside ks later e = go (firstClean k g S (drop p letters) os) refl
     where
       from : length S ≡ length (drop p letters)
       from = simp length-drop (omega (arith, length-as letters))
 
-      go : (x : Option ℕ) → firstClean k g S (drop p letters) os ≡ x → Known (asSymbols letters) letters (k ∷ ks) (cleanFrom p g x)
-      go none e = tt
-      go (some o) e =
-          let l = first-inside k g S (drop p letters) os from o e in
-          (record { inside = omega (arith, l, length-drop p (asSymbols letters), length-as letters); symbol = letter-below received f S (below-drop p (asSymbols letters) (as-below letters)) symbol o }, rw (← drop-drop o p (asSymbols letters), ← drop-drop o p letters) (clean-first k g S (drop p letters) os o e))
+      go : (x : Option ℕ) → firstClean k g S (drop p letters) os ≡ x → Known (asSymbols letters) letters ks (cleanFrom passed p g x)
+      go none q = tt
+      go (some o) q =
+          let l = first-inside k g S (drop p letters) os from o q in
+          (record { inside = omega (arith, l, length-drop p (asSymbols letters), length-as letters); symbol = letter-below received f S (below-drop p (asSymbols letters) (as-below letters)) symbol o }, rw (e, ← drop-drop o p (asSymbols letters), ← drop-drop o p letters) (clean-first k g S (drop p letters) os o q))

@@ -3,7 +3,7 @@
 --   end-known     there is one
 --   message-in    the message is in the buffer
 --   message-lost  a step loses it
-use mathlib.Core.Path.{_≡_, refl, sym, ap, subst}
+use mathlib.Core.Path.{_≡_, refl, sym, ap, subst, _∙_}
 use mathlib.Core.Bool.{Bool}
 use mathlib.Core.List.{List, [], _∷_}
 use mathlib.Core.Logic.{⊎-elim}
@@ -23,22 +23,22 @@ use Rattle.message.specs.declared.MessageResult.the-variants.{Message, Lost}
 use Rattle.message.specs.MessageAnswers.{IsMessageResult}
 use Rattle.scan.specs.declared.Next.{Next}
 use Rattle.scan.specs.declared.Next.the-variants.{At, Clean, Nowhere}
-use Rattle.scan.specs.Scans.{startFrom, nextPlace}
+use Rattle.scan.specs.Scans.{Ahead, ahead, startFrom, nextPlace}
 use Rattle.scan.proofs.Next.{the-type}
 use Rattle.steps.specs.Step8.{IsEnd}
 use Rattle.steps.proofs.Answers.{Ended}
 
-no-start : (p l : ℕ) (x : Option ℕ) → none ≡ startFrom p (λ o. l) x → x ≡ none
+no-start : (p l : ℕ) (x : Option ℕ) → none ≡ startFrom 0 p (λ o. l) x → x ≡ none
 no-start p l none e = refl
 no-start p l (some o) e = absurd (let z : _≡_ {A = ℕ} 0 1 = cc in omega arith)
 
-some-start : (p l : ℕ) (x : Option ℕ) (y : ℕ × ℕ) → some y ≡ startFrom p (λ o. l) x → (x ≡ some (y .0 - p)) × (p ≤ y .0) × (y .1 ≡ l)
+some-start : (p l : ℕ) (x : Option ℕ) (y : Ahead) → some y ≡ startFrom 0 p (λ o. l) x → (x ≡ some (y .place - p)) × (p ≤ y .place) × (y ≡ ahead 0 (y .place) l)
 some-start p l none y e = absurd (let z : _≡_ {A = ℕ} 0 1 = cc in omega arith)
 some-start p l (some o) y e =
-    let q : y ≡ (p + o, l) = cc in
-    let n : y .0 ≡ p + o = ap (λ (x : ℕ × ℕ). x .0) q in
-    let i : o ≡ y .0 - p = omega arith in
-    (ap some i, omega arith, ap (λ (x : ℕ × ℕ). x .1) q)
+    let q : y ≡ ahead 0 (p + o) l = cc in
+    let n : y .place ≡ p + o = ap (λ (x : Ahead). x .place) q in
+    let i : o ≡ y .place - p = omega arith in
+    (ap some i, omega arith, q ∙ ap (λ (x : ℕ). ahead 0 x l) (sym n))
 
 module _ (marked : Bool) (m ks : List ℕ) (p : ℕ) (s letters : List ℕ) where
   abbrev end : Option ℕ
@@ -51,11 +51,11 @@ module _ (marked : Bool) (m ks : List ℕ) (p : ℕ) (s letters : List ℕ) wher
   -- there is one
   pub end-known : readMessage marked (length m) (drop p s) ≡ message m → (r : Next) → IsEnd marked m ks p s letters r → OneOf (0 ∷ 1 ∷ []) (tagOf the-type r) → (n at : ℕ) → at ≡ nextPlace r n → Ended marked p s letters ks m r at
   end-known g (At e f) is h n at q =
-      let x = some-start p (lastOf m) end (e, f) (is .0) in
-      record { is-read-message = g; ends = rw q (x .0); behind = omega (arith, x .1, q); inside = omega (arith, is .1 .inside, q); next-is = λ i. some (sym q i, x .2 i); known = is .1 }
-  end-known g (Clean e f) is h n at q =
-      let x = some-start p (lastOf m) end (e, f) (is .0) in
-      record { is-read-message = g; ends = rw q (x .0); behind = omega (arith, x .1, q); inside = omega (arith, is .1 .0 .inside, q); next-is = λ i. some (sym q i, x .2 i); known = is .1 }
+      let x = some-start p (lastOf m) end (ahead 0 e f) (is .0) in
+      record { is-read-message = g; ends = rw q (x .0); behind = omega (arith, x .1, q); inside = omega (arith, is .1 .inside, q); next-is = rw q (ap some (x .2)); known = is .1 }
+  end-known g (Clean e f i) is h n at q =
+      let x = some-start p (lastOf m) end (ahead i e f) (is .0) in
+      record { is-read-message = g; ends = rw q (x .0); behind = omega (arith, x .1, q); inside = omega (arith, is .1 .0 .inside, q); next-is = rw q (ap some (x .2)); known = is .1 }
   end-known g Nowhere is h n at q = absurd (⊎-elim (λ e. omega arith) (λ e. omega arith) h)
 
 -- the message in the buffer, and its tail

@@ -16,13 +16,13 @@ use Rattle.code.specs.Segment.{segment, lastOf, size}
 use Rattle.code.specs.Edits.{judged}
 use Rattle.code.specs.Reading.{message, lost, readMessage, endOf, withEdit, readSegment}
 use Rattle.code.specs.Reading as R
-use Rattle.code.specs.Strands.{told, scan}
+use Rattle.code.specs.Strands.{Try, scan, told}
 use Rattle.code.specs.declared.Edit.{Edit}
 use Rattle.code.specs.declared.Verdict.{Verdict}
 use Rattle.code.specs.declared.Verdict.the-variants.{Read, Lost}
 use Rattle.edits.specs.Judgement.{judgedAs}
 use Rattle.scan.specs.declared.Next.{Next}
-use Rattle.scan.specs.Scans.{startOf, Known}
+use Rattle.scan.specs.Scans.{ahead, startOf, Known}
 use Rattle.steps.specs.declared.Answer.{Answer}
 use Rattle.steps.specs.Steps.{afterLost, lostAt, afterOne, stepAt, IsStep}
 use Rattle.steps.proofs.Step9.{Named, lost-named}
@@ -61,8 +61,8 @@ module _ (marked : Bool) (f k : ℕ) (ks : List ℕ) (p : ℕ) (s letters : List
   pub lost-gives : (n : ℕ) (out : List ℕ) (next : Next) → out ≡ replicate k 0 → startOf next ≡ lostAt marked k ks p s letters 0 .next → Known s letters ks next → IsStep (lostAt marked k ks p s letters n) s letters ks out (record { verdict = Lost n; next = next })
   lost-gives n out next z e known = go (scan (size marked k) ks S L) e
     where
-      go : (x : Option ℕ) → startOf next ≡ afterLost k p s letters 0 x .next → IsStep (afterLost k p s letters n x) s letters ks out (record { verdict = Lost n; next = next })
-      go (some o) q = record { verdict = refl; next = q; message = z; known = known }
+      go : (x : Option Try) → startOf next ≡ afterLost k p s letters 0 x .next → IsStep (afterLost k p s letters n x) s letters ks out (record { verdict = Lost n; next = next })
+      go (some t) q = record { verdict = refl; next = q; message = z; known = known }
       go none q = record { verdict = refl; next = q; message = z; known = known }
 
   pub gives-lost : (n : ℕ) (out : List ℕ) (r : Answer) → one ≡ R.SegmentResult.lost n → IsStep (lostAt marked k ks p s letters n) s letters ks out r → IsStep (stepAt marked f k ks p s letters) s letters ks out r
@@ -70,10 +70,10 @@ module _ (marked : Bool) (f k : ℕ) (ks : List ℕ) (p : ℕ) (s letters : List
   gives-lost n out r e is = subst (λ (o : R.SegmentResult). IsStep (afterOne marked k ks p s letters o) s letters ks out r) (sym e) is
 
   -- the step of a segment that was read
-  pub gives-read : (m out : List ℕ) (e : Edit) (o end : ℕ) (r : Answer) → one ≡ R.SegmentResult.read m e o → out ≡ m → r .verdict ≡ Read e → startOf (r .next) ≡ some (end, lastOf m) → end ≡ p + o → Known s letters ks (r .next) → IsStep (stepAt marked f k ks p s letters) s letters ks out r
+  pub gives-read : (m out : List ℕ) (e : Edit) (o end : ℕ) (r : Answer) → one ≡ R.SegmentResult.read m e o → out ≡ m → r .verdict ≡ Read e → startOf (r .next) ≡ some (ahead 0 end (lastOf m)) → end ≡ p + o → Known s letters ks (r .next) → IsStep (stepAt marked f k ks p s letters) s letters ks out r
   unfolding stepAt
   gives-read m out e o end r q u v w i known =
-      subst (λ (x : R.SegmentResult). IsStep (afterOne marked k ks p s letters x) s letters ks out r) (sym q) (record { verdict = ap (λ (y : Verdict). told y (take o L)) v; next = w ∙ ap (λ (y : ℕ). some (y, lastOf m)) i; message = u; known = known })
+      subst (λ (x : R.SegmentResult). IsStep (afterOne marked k ks p s letters x) s letters ks out r) (sym q) (record { verdict = ap (λ (y : Verdict). told y (take o L)) v; next = w ∙ ap (λ (y : ℕ). some (ahead 0 y (lastOf m))) i; message = u; known = known })
 
 -- the message of the segment at p is in the buffer, and the segment ends at `end`, where `next` says that the next one starts
 pub record Ended (marked : Bool) (p : ℕ) (s letters ks out : List ℕ) (next : Next) (end : ℕ) : Type 0 where
@@ -81,7 +81,7 @@ pub record Ended (marked : Bool) (p : ℕ) (s letters ks out : List ℕ) (next :
   pub ends : endOf marked (length out) ks (drop p s) (drop p letters) out ≡ some (end - p)
   pub behind : p ≤ end
   pub inside : end ≤ length s
-  pub next-is : startOf next ≡ some (end, lastOf out)
+  pub next-is : startOf next ≡ some (ahead 0 end (lastOf out))
   pub known : Known s letters ks next
 
 -- a segment whose message is in the buffer, and whose end is known

@@ -30,6 +30,7 @@ use Rattle.tail.proofs.Tails.{marked-block}
 use Rattle.message.specs.declared.MessageResult.the-variants.{Message}
 use Rattle.message.specs.MessageAnswers.{IsMessageResult}
 use Rattle.clean.proofs.Segment.{size-data}
+use Rattle.scan.specs.Scans.{ahead}
 use Rattle.scan.specs.laws.Scans.{clean-in-symbols}
 use Rattle.scan.proofs.Starts.{clean-inside}
 use Rattle.steps.specs.Steps.{stepAt, standingAnswer, IsStep}
@@ -116,7 +117,7 @@ module _ (marked : Bool) (f k p d : ℕ) (s : List ℕ) (two : 2 ≤ k) (small :
   pub stands-step : (letters : List ℕ) → length s ≡ length letters → (ks : List ℕ) → (ks ≡ [] → d + k + (4 + width k) ≡ length s) → (out : List ℕ) → out ≡ M → IsStep (stepAt marked f k ks p s letters) s letters ks out (standingAnswer k d s)
   stands-step letters same ks ends out e =
       let end = d + k + (4 + width k) in
-      gives-read marked f k ks p s letters M out None (size marked k) end (standingAnswer k d s) (known-read marked f k S M rest M-whole M-long two M-small ks (drop p letters) (fin ks ends) (simp length-drop (omega arith))) e refl (ap (λ (x : ℕ). some (end, x)) M-last) (omega (arith, size-data marked k)) (record { inside = M-inside; symbol = small (end - 1) })
+      gives-read marked f k ks p s letters M out None (size marked k) end (standingAnswer k d s) (known-read marked f k S M rest M-whole M-long two M-small ks (drop p letters) (fin ks ends) (simp length-drop (omega arith))) e refl (ap (λ (x : ℕ). some (ahead 0 end x)) M-last) (omega (arith, size-data marked k)) (record { inside = M-inside; symbol = small (end - 1) })
     where
       fin : (ks : List ℕ) → (ks ≡ [] → d + k + (4 + width k) ≡ length s) → Final ks rest
       fin [] h q = no-more rest (simp length-drop (omega (arith, h refl, M-size)))

@@ -11,7 +11,7 @@ use mathlib.Core.List.{List, [], _∷_}
 use mathlib.Core.Option.{Option, some, none}
 use Prim.Native.Nat.{ℕ, _+_, _≤_, _<_}
 use native.Mathlib.Omega.{arith}
-use lib.ListN.{length, getD, take, drop, length-drop, length-append}
+use lib.ListN.{length, getD, drop, length-drop, length-append}
 use lib.Seq.{drop-drop}
 use Rattle.code.specs.Symbols.{asSymbols}
 use Rattle.code.specs.Bounds.{longest, Length}
@@ -21,14 +21,14 @@ use Rattle.code.specs.laws.Segment.{length-syndrome, width-two, last-below}
 use Rattle.code.specs.Layout.{Lengths, done, more}
 use Rattle.code.specs.Reading.{Shift, isPrefix, moved, syndromeAgrees, settled, behind, around, firstShift, clean, endOf}
 use Rattle.code.specs.laws.Reading.{prefix-split}
-use Rattle.code.specs.Strands.{above, pairs}
+use Rattle.code.specs.Strands.{window}
 use Rattle.tail.specs.declared.Tail.{Tail}
 use Rattle.tail.specs.Tails.{syndromeIn, IsTail}
 use Rattle.message.specs.MessageAnswers.{shiftOf}
 use Rattle.message.proofs.Steps3to7.{syndrome-seen}
 use Rattle.scan.specs.declared.Next.{Next}
 use Rattle.scan.specs.declared.Next.the-variants.{At}
-use Rattle.scan.specs.Scans.{firstClean, letterBefore, searched, startOf, startFrom, Known}
+use Rattle.scan.specs.Scans.{firstClean, letterBefore, searched, ahead, startOf, startFrom, Known}
 use Rattle.scan.specs.laws.Scans.{around-first}
 use Rattle.scan.proofs.Starts.{searched-start, searched-known}
 use Rattle.steps.specs.Step8.{separatorIn, settledAt, IsEnd}
@@ -77,7 +77,7 @@ module _ (s m : List ℕ) (p : ℕ) (marked : Bool) (two : 2 ≤ length m) (insi
     unfolding endOf
     end-last [] e f l =
         let q : length s ≡ p + length (drop p letters) = simp length-drop (omega arith) in
-        ((λ i. some (q i, l i)), record { inside = omega arith; symbol = omega (arith, l, last-below m) })
+        ((λ i. some (ahead 0 (q i) (l i))), record { inside = omega arith; symbol = omega (arith, l, last-below m) })
     end-last (k ∷ ks) e f l = absurd (omega arith)
 
     -- one whose syndrome was seen ends behind it
@@ -88,7 +88,7 @@ module _ (s m : List ℕ) (p : ℕ) (marked : Bool) (two : 2 ≤ length m) (insi
         let q : n + w ≡ p + (dataAt marked + (moved (shiftOf j) (length m + 1) + 3 + width (length m))) = omega arith in
         let r = settled-inside marked S m two sep e in
         let v : dataAt marked + (moved (shiftOf j) (length m + 1) + 3 + width (length m)) ≤ length S = rw h at r in
-        (rw (e, h) (λ y. some (q y, o y)), record { inside = omega (arith, q, v, length-drop p s); symbol = omega (arith, o, last-below m) })
+        (rw (e, h) (λ y. some (ahead 0 (q y) (o y))), record { inside = omega (arith, q, v, length-drop p s); symbol = omega (arith, o, last-below m) })
 
 -- another ends where a clean one starts
 module _ (letters m : List ℕ) (p : ℕ) (marked : Bool) (inside : p ≤ length letters) where
@@ -99,18 +99,17 @@ module _ (letters m : List ℕ) (p : ℕ) (marked : Bool) (inside : p ≤ length
   abbrev L : List ℕ
   L = drop p letters
 
-  pub end-around : (ks : List ℕ) → 0 < length ks → settledAt marked m p (asSymbols letters) ≡ false → (n f : ℕ) (r : Next) → n ≡ size marked (length m) → f ≡ lastOf m → 1 < n → r ≡ searched false f (getD ks 0 0) p (above (take 3 (n ∷ pairs n 1 8))) letters → IsEnd marked m ks p (asSymbols letters) letters r
+  pub end-around : (ks : List ℕ) → 0 < length ks → settledAt marked m p (asSymbols letters) ≡ false → (n f : ℕ) (r : Next) → n ≡ size marked (length m) → f ≡ lastOf m → 1 < n → r ≡ searched false f (getD ks 0 0) 0 p (window n 1) letters → IsEnd marked m ks p (asSymbols letters) letters r
   unfolding endOf letterBefore
   end-around [] l e n f r g i o q = absurd (omega arith)
   end-around (k ∷ ks) l e n f r g i o q =
-      let os = above (take 3 (n ∷ pairs n 1 8)) in
-      let x = firstClean k (letterBefore false f from) from L os in
+      let x = firstClean k (letterBefore false f from) from L (window n 1) in
       let found : x ≡ around n (firstShift (λ e. clean k f (drop (moved e n) from) (drop (moved e n) L))) = around-first n k f from L o in
       let found′ : x ≡ endOf marked (length m) (k ∷ ks) from L m = found ∙ rw (e, ← i, ← g) in
-      (ap startOf q ∙ (searched-start false f k p os letters ∙ (named x ∙ ap (startFrom p (λ o. lastOf m)) found′)), subst (Known (asSymbols letters) letters (k ∷ ks)) (sym q) (searched-known false f k p os letters (omega (arith, i, last-below m)) inside ks))
+      (ap startOf q ∙ (searched-start false f k 0 p (window n 1) letters ∙ (named x ∙ ap (startFrom 0 p (λ o. lastOf m)) found′)), subst (Known (asSymbols letters) letters (k ∷ ks)) (sym q) (searched-known false f k 0 p (window n 1) letters (omega (arith, i, last-below m)) inside (k ∷ ks) ks refl))
     where
-      named : (x : Option ℕ) → startFrom p (letterBefore false f from) x ≡ startFrom p (λ o. lastOf m) x
-      named (some o) = ap (λ (y : ℕ). some (p + o, y)) i
+      named : (x : Option ℕ) → startFrom 0 p (letterBefore false f from) x ≡ startFrom 0 p (λ o. lastOf m) x
+      named (some o) = ap (λ (y : ℕ). some (ahead 0 (p + o) y)) i
       named none = refl
 
 -- the end, where the letters are read as s

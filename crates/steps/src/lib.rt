@@ -25,7 +25,7 @@ ghost use mathlib.Core.Path.{_≡_};
 ghost use mathlib.Core.Bool.{true, false};
 ghost use mathlib.Core.List.{_∷_};
 ghost use Prim.Native.Nat.{_+_, _<_, _≤_};
-ghost use lib.ListN.{length, take, drop};
+ghost use lib.ListN.{length, take, drop, replicate};
 ghost use Rattle.code.specs.Symbols.{asSymbols};
 ghost use Rattle.code.specs.Bounds.{longest, reach, Length, Received};
 ghost use Rattle.code.specs.Layers.{width};
@@ -34,7 +34,7 @@ ghost use Rattle.code.specs.Layout.{Lengths};
 ghost use Rattle.code.specs.Reading as R;
 ghost use Rattle.layers.specs.LayerSums.{sumsOf};
 ghost use Rattle.scan.specs.Scans.{Known};
-ghost use Rattle.steps.specs.Steps.{standingAnswer, AtStart, Marked, Stepped, SteppedFrom};
+ghost use Rattle.steps.specs.Steps.{standingAnswer, unfoundAnswer, AtStart, Marked, Stepped, SteppedFrom};
 
 // What is said of a segment, and where the next one starts.
 pub struct Answer {
@@ -203,8 +203,20 @@ fn read_clean(s: &[u8], letters: &[u8], p: usize, f: u8, rest: &[u16], out: &mut
     put_standing(s, p + 2, out)
 }
 
-// The segment at a start, where one was found, whose message goes to `out`, zeros where it is lost; the letters are read as s, and `rest` is the
-// lengths behind it. Whether its piece holds an N is not asked here.
+// A segment that is lost for want of a start; reading goes on at `next`.
+fn unfound(next: Next, out: &mut [u8]) -> Answer
+    ensures { λ r. ⌜ r ≡ unfoundAnswer next ⌝ }
+    ensures { λ _. ⌜ now (out .exit) ≡ replicate (length (now (out .entry))) 0 ⌝ }
+{
+    put_zeros(out);
+    Answer {
+        verdict: Verdict::NoStart,
+        next,
+    }
+}
+
+// The next segment, where reading goes on at `start`, or none is found; its message goes to `out`, zeros where it is lost. The letters are read as s,
+// and `rest` is the lengths behind it. Whether its piece holds an N is not asked here.
 pub fn read_segment(
     s: &[u8],
     letters: &[u8],
@@ -219,13 +231,12 @@ pub fn read_segment(
 {
     match start {
         Next::At(p, f) => read_at(s, letters, p, marked, f, rest, out),
-        Next::Clean(p, f) => read_clean(s, letters, p, f, rest, out),
-        Next::Nowhere => {
-            put_zeros(out);
-            Answer {
-                verdict: Verdict::NoStart,
-                next: Next::Nowhere,
+        Next::Clean(p, f, passed) => {
+            if 0 < passed {
+                return unfound(Next::Clean(p, f, passed - 1), out);
             }
+            read_clean(s, letters, p, f, rest, out)
         }
+        Next::Nowhere => unfound(Next::Nowhere, out),
     }
 }

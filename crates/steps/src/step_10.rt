@@ -1,4 +1,4 @@
-// Step 10: a lost segment, and where the search for the next one finds it.
+// Step 10: a lost segment, and where the search for those behind it finds one.
 use crate::Answer;
 use code::Verdict;
 use copying::put_zeros;
@@ -15,7 +15,7 @@ ghost use Rattle.code.specs.Layout.{Lengths};
 ghost use Rattle.scan.specs.Scans.{startOf, Known};
 ghost use Rattle.steps.specs.Steps.{lostAt, SteppedLost};
 
-// Step 10: where the segment behind a lost one of k message symbols starts; `rest` is the lengths behind it.
+// Step 10: which later segment stands where behind a lost one of k message symbols; `rest` is the lengths behind it.
 fn scan_behind(letters: &[u8], p: usize, marked: bool, k: usize, rest: &[u16]) -> Next
     requires { ⌜ length (now letters) ≤ mostLetters ⌝ }
     requires { ⌜ (p ≤ length (now letters)) × Length k ⌝ }
@@ -23,18 +23,24 @@ fn scan_behind(letters: &[u8], p: usize, marked: bool, k: usize, rest: &[u16]) -
     ensures { λ r. ⌜ startOf r ≡ lostAt marked k (now (rest .entry)) p (asSymbols (now (letters .entry))) (now (letters .entry)) 0 .next ⌝ }
     ensures { λ r. ⌜ Known (asSymbols (now (letters .entry))) (now (letters .entry)) (now (rest .entry)) r ⌝ }
 {
-    if rest.len() == 0 {
-        return Next::Nowhere;
+    let mut centre = size_of(marked, k);
+    let mut passed: u16 = 0;
+    let mut later = rest;
+    while 0 < later.len() {
+        let wide = 8 * (passed as usize + 1);
+        if letters.len() + wide <= p + centre {
+            return Next::Nowhere;
+        }
+        let sought = later[0] as usize;
+        let next = find_clean(letters, p, centre, sought, wide, true, 0, passed);
+        if let Next::Clean(_, _, _) = next {
+            return next;
+        }
+        centre += size_of(true, sought);
+        passed += 1;
+        later = &later[1..];
     }
-    find_clean(
-        letters,
-        p,
-        size_of(marked, k),
-        rest[0] as usize,
-        17,
-        true,
-        0,
-    )
+    Next::Nowhere
 }
 
 // A segment at p that a step loses comes straight to step 10.

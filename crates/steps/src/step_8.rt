@@ -39,9 +39,10 @@ fn end_at_clean(
         p,
         size_of(marked, message.len()),
         rest[0] as usize,
-        3,
+        1,
         false,
         last_of(tail),
+        0,
     )
 }
 

@@ -11,7 +11,7 @@ use lib.ListN.{length, take, drop, length-drop}
 use lib.Seq.{length-take-le}
 use Rattle.code.specs.Symbols.{Below, symbols, bytes}
 use Rattle.code.specs.Layout.{sum, cut, joined, Lengths, done, more}
-use Rattle.code.specs.Strands.{outcomes}
+use Rattle.code.specs.Strands.{scan, outcomes}
 use Rattle.code.specs.Demand3.{Demand-3, One-message, Demand-3-bytes}
 use Rattle.code.specs.laws.Symbols.{bytes-symbols}
 use Rattle.code.specs.laws.Below.{below-take, below-drop}
@@ -30,7 +30,7 @@ proper (k ∷ ks) x (more l _ ls) h e =
 pub demand-3 : Demand-3
 demand-3 most ks x s m o =
     let e = m .size in
-    let w : Whole (cut ks x) (outcomes ks s) = rw (cut-lengths ks x e) at (regained false 0 (cut ks x) (o .edits) s (proper ks x (m .lengths) (m .symbols) e) (o .allowed) (o .stretches)) in
+    let w : Whole (cut ks x) (outcomes ks s) = rw (cut-lengths ks x e) at (regained scan false 0 (cut ks x) (o .edits) s (proper ks x (m .lengths) (m .symbols) e) (o .allowed) (o .stretches)) in
     let f = whole-marks w in
     record {
       message = ap joined (whole-messages w) ∙ joined-cut ks x e;

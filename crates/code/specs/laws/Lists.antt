@@ -8,14 +8,16 @@
 --   drop-four       the next four entries of a list
 --   take-replicate  the front of equal entries
 --   replicate-more  one more of them
+--   first-rest      the first of a list, and those behind it
+--   drop-front      behind a front
 use mathlib.Core.Path.{_≡_, refl, sym, ap, _∙_}
 use mathlib.Core.List.{List, [], _∷_, _++_, append-assoc, append-nil}
-use Prim.Native.Nat.{ℕ, zero, suc, _+_, _<_, _≤_}
+use Prim.Native.Nat.{ℕ, zero, suc, _+_, _-_, _<_, _≤_}
 use native.Mathlib.Nat.{zero-add, add-zero}
 use native.Mathlib.Numerals.{add-one}
 use native.Mathlib.Omega.{arith}
 use lib.ListN.{length, take, drop, getD, set, replicate, length-take, length-drop, length-append, take-append-drop}
-use lib.Seq.{drop-cons, set-at, take-at, drop-at, take-length, length-take-le, drop-drop, take-add}
+use lib.Seq.{drop-cons, set-at, take-at, drop-at, take-all, take-length, length-take-le, drop-drop, take-add}
 use Rattle.code.specs.Buffers.{putAt}
 
 module _ {A : Type 0} where
@@ -122,3 +124,16 @@ module _ (d : List ℕ) (i : ℕ) (b : List ℕ) (room : i + length b ≤ length
   put-one v h =
       let n : i + length (b ++ v ∷ []) ≡ i + length b + 1 = simp length-append (omega arith) in
       put-more (take i d ++ b) d (i + length b) v put-front h ∙ rw (n, append-assoc (take i d) b (v ∷ []))
+
+-- Fronts and rests
+
+-- the first of a list, and those behind it as a part
+pub first-rest : (ks : List ℕ) → 0 < length ks → ks ≡ getD ks 0 0 ∷ take (length ks - 1) (drop 1 ks)
+first-rest [] h = absurd (omega arith)
+first-rest (k ∷ ks) h = let e : suc (length ks) - 1 ≡ length ks = omega arith in rw e (ap (_∷_ k) (sym (take-all (length ks) ks (omega arith))))
+
+-- behind as many as a front has
+pub drop-front : (o : ℕ) (l : List ℕ) → drop (length (take o l)) l ≡ drop o l
+drop-front zero l = refl
+drop-front (suc o) [] = refl
+drop-front (suc o) (x ∷ l) = drop-front o l

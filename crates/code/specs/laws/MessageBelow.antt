@@ -14,7 +14,8 @@ use Rattle.code.specs.declared.Edit.the-variants.{None, Sub, Del, Ins}
 use Rattle.code.specs.declared.Link.{Link}
 use Rattle.code.specs.declared.Verdict.{Verdict}
 use Rattle.code.specs.declared.Verdict.the-variants.{Read, Unknown, Lost, NoStart}
-use Rattle.code.specs.Symbols.{Below}
+use Rattle.code.specs.Symbols.{Below, asSymbols}
+use Rattle.code.specs.laws.Letters.{as-below}
 use Rattle.code.specs.laws.Below.{below-cons, below-append, below-take, below-drop}
 use Rattle.code.specs.Layers.{Word, layer, pair, width, number}
 use Rattle.code.specs.laws.Layers.{pair-below}
@@ -23,7 +24,7 @@ use Rattle.code.specs.Segment.{lastOf, size, dataAt}
 use Rattle.code.specs.Layout.{joined}
 use Rattle.code.specs.Reading.{Shift, moved, whole, separatorAt, afterSeparator, checkAgrees, MessageResult, message, bothLayers, repaired, linkOf, taken, messageAt, messageWithout, readWhole, readHit, readMessage, SegmentResult, read, readSegment}
 use Rattle.code.specs.Sheet.{markOf, marksOf}
-use Rattle.code.specs.Strands.{Outcome, scan, unfound, lostAndRest, segmentAndRest, reading, messagesOf, verdictsOf}
+use Rattle.code.specs.Strands.{Try, scan, Outcome, unfound, Scan, lostAndRest, segmentAndRest, reading, outcomes, messagesOf, verdictsOf}
 use Rattle.code.specs.laws.ReadSegment.{read-parts}
 
 -- two layers make symbols
@@ -80,21 +81,28 @@ unfound-below [] = λ i. omega arith
 unfound-below (k ∷ ks) = below-append (replicate k 0) (messagesOf (map unfound ks)) (zeros-below k) (unfound-below ks)
 
 -- the messages of a reading are symbols
-pub messages-below : (marked : Bool) (f : ℕ) (ks s letters : List ℕ) → Below 4 s → Below 4 (messagesOf (reading marked f ks s letters))
+reading-below : (look : Scan) (passed : ℕ) (marked : Bool) (f : ℕ) (ks s letters : List ℕ) → Below 4 s → Below 4 (messagesOf (reading look passed marked f ks s letters))
 unfolding reading joined
-messages-below marked f [] s letters small = λ i. omega arith
-messages-below marked f (k ∷ ks) s letters small = go (readSegment marked f k ks s letters) refl (λ g o. messages-below true g ks (drop o s) (drop o letters) (below-drop o s small))
+reading-below look passed marked f [] s letters small = λ i. omega arith
+reading-below look (suc passed) marked f (k ∷ ks) s letters small = below-append (replicate k 0) _ (zeros-below k) (reading-below look passed true f ks s letters small)
+reading-below look zero marked f (k ∷ ks) s letters small = go (readSegment marked f k ks s letters) refl (λ n g o. reading-below look n true g ks (drop o s) (drop o letters) (below-drop o s small))
   where
-    next : ℕ → ℕ → List Outcome
-    next g o = reading true g ks (drop o s) (drop o letters)
+    next : ℕ → ℕ → ℕ → List Outcome
+    next n g o = reading look n true g ks (drop o s) (drop o letters)
 
-    scanned : (step : ℕ) (o : Option ℕ) → ((g o : ℕ) → Below 4 (messagesOf (next g o))) → Below 4 (messagesOf (lostAndRest k ks s letters step next o))
-    scanned step (some o) h = below-append (replicate k 0) (messagesOf (next (getD s (o - 1) 0) o)) (zeros-below k) (h (getD s (o - 1) 0) o)
-    scanned step none h = below-append (replicate k 0) (messagesOf (map unfound ks)) (zeros-below k) (unfound-below ks)
+    Later : Type 0
+    Later = (n g o : ℕ) → Below 4 (messagesOf (next n g o))
 
-    go : (r : SegmentResult) → readSegment marked f k ks s letters ≡ r → ((g o : ℕ) → Below 4 (messagesOf (next g o))) → Below 4 (messagesOf (segmentAndRest marked k ks s letters next r))
-    go (read m e o) q h = below-append m (messagesOf (next (lastOf m) o)) (read-message-below marked k s m small (read-parts marked f k ks s letters m e o q .gives)) (h (lastOf m) o)
-    go (SegmentResult.lost step) q h = scanned step (scan (size marked k) ks s letters) h
+    scanned : (step : ℕ) (x : Option Try) → Later → Below 4 (messagesOf (lostAndRest k ks s letters step next x))
+    scanned step (some t) h = below-append (replicate k 0) _ (zeros-below k) (h (t .passed) (getD s (t .start - 1) 0) (t .start))
+    scanned step none h = below-append (replicate k 0) _ (zeros-below k) (unfound-below ks)
+
+    go : (r : SegmentResult) → readSegment marked f k ks s letters ≡ r → Later → Below 4 (messagesOf (segmentAndRest k ks s letters next (look (size marked k) ks s letters) r))
+    go (read m e o) q h = below-append m _ (read-message-below marked k s m small (read-parts marked f k ks s letters m e o q .gives)) (h 0 (lastOf m) o)
+    go (SegmentResult.lost step) q h = scanned step (look (size marked k) ks s letters) h
+
+pub messages-below : (ks letters : List ℕ) → Below 4 (messagesOf (outcomes ks letters))
+messages-below ks letters = reading-below scan 0 false 0 ks (asSymbols letters) letters (as-below letters)
 
 mark-below : (v : Verdict) → markOf v < 4
 mark-below (Read None) = omega arith

@@ -7,13 +7,14 @@ use mathlib.Core.Path.{_≡_, refl, sym, ap, _∙_}
 use mathlib.Core.Bool.{Bool, true, false, cond}
 use mathlib.Core.List.{List, [], _∷_, _++_, map}
 use mathlib.Core.Option.{Option, some, none}
-use Prim.Native.Nat.{ℕ, _+_, _-_, _≤_}
+use Prim.Native.Nat.{ℕ, zero, suc, _+_, _-_, _≤_}
 use native.Mathlib.Omega.{arith}
 use lib.Dec.{ltb}
 use lib.ListN.{length, getD, take, drop, replicate, length-append, length-drop, length-replicate}
 use lib.Seq.{length-take-le}
 use Rattle.code.specs.declared.Edit.{Edit}
 use Rattle.code.specs.declared.Link.{Link}
+use Rattle.code.specs.Symbols.{asSymbols}
 use Rattle.code.specs.Layers.{Word, layer, pair, width, number}
 use Rattle.code.specs.laws.Layers.{length-layer, length-pair}
 use Rattle.code.specs.Links.{sent}
@@ -24,7 +25,7 @@ use Rattle.code.specs.Segment.{check, lastOf, size, dataAt}
 use Rattle.code.specs.Layout.{sum, joined, Lengths, done, more}
 use Rattle.code.specs.Reading.{isPrefix, threeEqual, Shift, level, early, late, moved, whole, separatorAt, afterSeparator, checkAgrees, MessageResult, message, bothLayers, repaired, linkOf, taken, messageAt, messageWithout, readWhole, readHit, readMessage, SegmentResult, read, readSegment}
 use Rattle.code.specs.laws.ReadSegment.{read-parts}
-use Rattle.code.specs.Strands.{Outcome, scan, unfound, lostAndRest, segmentAndRest, reading, messagesOf}
+use Rattle.code.specs.Strands.{Try, scan, Outcome, unfound, Scan, lostAndRest, segmentAndRest, reading, outcomes, messagesOf}
 
 three-long : (w : List ℕ) → threeEqual w ≡ true → 3 ≤ length w
 unfolding threeEqual
@@ -136,21 +137,28 @@ unfound-messages [] = refl
 unfound-messages (k ∷ ks) = simp (length-append, length-replicate) (omega (arith, unfound-messages ks))
 
 -- the messages of a reading have the symbols of the layout
-pub length-messages : {most : ℕ} (marked : Bool) (f : ℕ) (ks s letters : List ℕ) → Lengths most ks → length (messagesOf (reading marked f ks s letters)) ≡ sum ks
+length-reading : {most : ℕ} (look : Scan) (passed : ℕ) (marked : Bool) (f : ℕ) (ks s letters : List ℕ) → Lengths most ks → length (messagesOf (reading look passed marked f ks s letters)) ≡ sum ks
 unfolding reading joined sum
-length-messages marked f [] s letters done = refl
-length-messages marked f (k ∷ ks) s letters (more two _ ls) = go (readSegment marked f k ks s letters) refl (λ g o. length-messages true g ks (drop o s) (drop o letters) ls)
+length-reading look passed marked f [] s letters done = refl
+length-reading look (suc passed) marked f (k ∷ ks) s letters (more two _ ls) = simp (length-append, length-replicate) (omega (arith, length-reading look passed true f ks s letters ls))
+length-reading look zero marked f (k ∷ ks) s letters (more two _ ls) = go (readSegment marked f k ks s letters) refl (λ n g o. length-reading look n true g ks (drop o s) (drop o letters) ls)
   where
-    next : ℕ → ℕ → List Outcome
-    next g o = reading true g ks (drop o s) (drop o letters)
+    next : ℕ → ℕ → ℕ → List Outcome
+    next n g o = reading look n true g ks (drop o s) (drop o letters)
+
+    Later : Type 0
+    Later = (n g o : ℕ) → length (messagesOf (next n g o)) ≡ sum ks
 
     zeros : (w : List ℕ) → length w ≡ sum ks → length (replicate k 0 ++ w) ≡ k + sum ks
     zeros w e = simp (length-append, length-replicate) (omega arith)
 
-    scanned : (step : ℕ) (o : Option ℕ) → ((g o : ℕ) → length (messagesOf (next g o)) ≡ sum ks) → length (messagesOf (lostAndRest k ks s letters step next o)) ≡ k + sum ks
-    scanned step (some o) h = zeros _ (h (getD s (o - 1) 0) o)
+    scanned : (step : ℕ) (x : Option Try) → Later → length (messagesOf (lostAndRest k ks s letters step next x)) ≡ k + sum ks
+    scanned step (some t) h = zeros _ (h (t .passed) (getD s (t .start - 1) 0) (t .start))
     scanned step none h = zeros _ (unfound-messages ks)
 
-    go : (r : SegmentResult) → readSegment marked f k ks s letters ≡ r → ((g o : ℕ) → length (messagesOf (next g o)) ≡ sum ks) → length (messagesOf (segmentAndRest marked k ks s letters next r)) ≡ k + sum ks
-    go (read m e o) q h = simp length-append (omega (arith, read-length marked f k ks s letters m e o (omega arith) q, h (lastOf m) o))
-    go (SegmentResult.lost step) q h = scanned step (scan (size marked k) ks s letters) h
+    go : (r : SegmentResult) → readSegment marked f k ks s letters ≡ r → Later → length (messagesOf (segmentAndRest k ks s letters next (look (size marked k) ks s letters) r)) ≡ k + sum ks
+    go (read m e o) q h = simp length-append (omega (arith, read-length marked f k ks s letters m e o (omega arith) q, h 0 (lastOf m) o))
+    go (SegmentResult.lost step) q h = scanned step (look (size marked k) ks s letters) h
+
+pub length-messages : {most : ℕ} (ks letters : List ℕ) → Lengths most ks → length (messagesOf (outcomes ks letters)) ≡ sum ks
+length-messages ks letters ls = length-reading scan 0 false 0 ks (asSymbols letters) letters ls

@@ -22,7 +22,7 @@ use Rattle.code.specs.declared.Refusal.{Refusal}
 use Rattle.code.specs.declared.Refusal.the-variants.{Overlong, ShortBuffer, ForeignLetter, NoSuchSegment}
 use Rattle.code.specs.declared.Checked.{Checked}
 use Rattle.code.specs.declared.Checked.the-variants.{Fine, Refused}
-use Rattle.code.specs.Symbols.{letterOf, letters, legible, decoded, asSymbols}
+use Rattle.code.specs.Symbols.{letterOf, letters, legible, decoded}
 use Rattle.code.specs.laws.Symbols.{whole-letters, whole-length, length-bytes}
 use Rattle.code.specs.Layout.{sum, joined}
 use Rattle.code.specs.Limits.{mostLetters}
@@ -30,7 +30,6 @@ use Rattle.code.specs.Refusals.{refuse, outside}
 use Rattle.code.specs.Order.{Order, orderTest, Taken}
 use Rattle.code.specs.laws.Order.{order-fine, order-then, order-refused}
 use Rattle.code.specs.Sheet.{sheetOf, sheetBytes}
-use Rattle.code.specs.Strands.{outcomes}
 use Rattle.code.specs.laws.Strands.{joined-pieces}
 use Rattle.code.specs.ReadCall.{foreignTest, overlong, receivedTest, shortBuffers, readTest, pieceTest, outcomesOf, piecesOf, pieceStart, pieceLength, pieceOf}
 
@@ -143,14 +142,9 @@ letters-drop zero s = refl
 letters-drop (suc n) [] = refl
 letters-drop (suc n) (x ∷ s) = letters-drop n s
 
--- the pieces of a layout with a segment, joined, are all that was received
-all-pieces : (ks s : List ℕ) → 1 ≤ length ks → joined (piecesOf (outcomes ks s)) ≡ s
-all-pieces [] s h = absurd (omega arith)
-all-pieces (k ∷ ks) s h = joined-pieces false 0 k ks (asSymbols s) s
-
 module _ (o : Order) (cs : List ℕ) (t : Taken o) (b : Bool) (w : decoded cs ≡ D.Whole b) where
   pieces-legible : joined (piecesOf (outcomesOf o cs)) ≡ legible cs
-  pieces-legible = all-pieces (o .lengths) (legible cs) (order-fine o false t .some-segments)
+  pieces-legible = joined-pieces (o .lengths) (legible cs) (order-fine o false t .some-segments)
 
   -- the piece behind the first i pieces lies inside the caller's letters
   pub piece-inside : (i : ℕ) → pieceStart (outcomesOf o cs) i + pieceLength (outcomesOf o cs) i ≤ length cs

@@ -17,7 +17,7 @@ use Rattle.code.specs.laws.Judged.{judged-none}
 use Rattle.code.specs.Reading.{message, read, readMessage, withMessage, readSegment}
 use Rattle.code.specs.Conditions.{received, Allowed}
 use Rattle.code.specs.Sheet.{markOf, marksOf, countOf}
-use Rattle.code.specs.Strands.{told, Outcome, reading, verdictsOf}
+use Rattle.code.specs.Strands.{told, Outcome, Scan, reading, verdictsOf}
 use Rattle.code.specs.laws.OneSegment.{Proper}
 use Rattle.code.specs.laws.ReceivedSegment.{Step, step}
 use Rattle.code.specs.declared.Edit.{Edit}
@@ -41,15 +41,16 @@ one-read marked f m ms l t = go (judged (segment marked f m) (take (t .stop) s))
     go none q = absurd (judged-none (segment marked f m) (take (t .stop) s) q (t .edit) (t .fits) (t .piece))
     go (some e) q = (e, rw (t .read-message-is, t .end-is, q))
 
-pub regained : (marked : Bool) (f : ℕ) (ms : List (List ℕ)) (es : List Edit) (l : List ℕ) → Each Proper ms → Allowed marked f ms es → received marked f ms es ≡ l → Whole ms (reading marked f (map length ms) (asSymbols l) l)
+-- by any scan
+pub regained : (look : Scan) (marked : Bool) (f : ℕ) (ms : List (List ℕ)) (es : List Edit) (l : List ℕ) → Each Proper ms → Allowed marked f ms es → received marked f ms es ≡ l → Whole ms (reading look 0 marked f (map length ms) (asSymbols l) l)
 unfolding reading
-regained marked f [] [] l ps h q = end
-regained marked f [] (e ∷ es) l ps h q = absurd h
-regained marked f (m ∷ ms) [] l ps h q = absurd h
-regained marked f (m ∷ ms) (e ∷ es) l (L.both p ps) h q =
+regained look marked f [] [] l ps h q = end
+regained look marked f [] (e ∷ es) l ps h q = absurd h
+regained look marked f (m ∷ ms) [] l ps h q = absurd h
+regained look marked f (m ∷ ms) (e ∷ es) l (L.both p ps) h q =
     let t : Step marked f m ms l = subst (λ (x : List ℕ). Step marked f m ms x) q (step marked f m ms e es p ps h) in
     let r = one-read marked f m ms l t in
-    rw (r .1, ← as-drop (t .stop) l) (next m (r .0) (take (t .stop) l) (regained true (lastOf m) ms (t .edits) (drop (t .stop) l) ps (t .allowed) (t .rest)))
+    rw (r .1, ← as-drop (t .stop) l) (next m (r .0) (take (t .stop) l) (regained look true (lastOf m) ms (t .edits) (drop (t .stop) l) ps (t .allowed) (t .rest)))
 
 -- What whole outcomes tell
 

@@ -3,44 +3,52 @@ use mathlib.Core.Path.{_≡_, refl, sym, ap, _∙_}
 use mathlib.Core.Bool.{Bool, true, false, cond}
 use mathlib.Core.List.{List, [], _∷_, _++_, map, append-nil, cons≢nil, append-assoc}
 use mathlib.Core.Option.{Option, some, none}
-use Prim.Native.Nat.{ℕ, suc, _+_, _-_, _≤_}
+use Prim.Native.Nat.{ℕ, zero, suc, _+_, _-_, _<_, _≤_}
 use native.Mathlib.Omega.{arith}
 use lib.ListN.{length, getD, take, drop, length-map, take-append-drop}
 use lib.Seq.{take-length, take-at}
 use lib.Dec.{eqb}
-use Rattle.code.specs.Symbols.{Below, hasUnknown}
+use Rattle.code.specs.Symbols.{Below, asSymbols, hasUnknown}
 use Rattle.code.specs.Segment.{check, marker, block, segment, lastOf, size}
 use Rattle.code.specs.laws.Segment.{length-segment}
 use Rattle.code.specs.Layout.{joined}
 use Rattle.code.specs.Edits.{judged}
 use Rattle.code.specs.laws.Edits.{same-refl}
-use Rattle.code.specs.Reading.{message, SegmentResult, read, lost, readMessage, endOf, clean, readSegment}
+use Rattle.code.specs.Reading.{message, SegmentResult, read, lost, readMessage, endOf, readSegment}
 use Rattle.code.specs.laws.ReadSegment.{read-parts}
 use Rattle.code.specs.laws.SegmentSteps.{pre, Sees, Final, sees-end, reads-settled}
 use Rattle.code.specs.laws.EditedSegment.{ending, message-edit}
 use Rattle.code.specs.Sheet.{markOf, marksOf, countOf}
-use Rattle.code.specs.Strands.{told, Outcome, firstStart, scan, unfound, lostAndRest, segmentAndRest, reading, verdictsOf}
+use Rattle.code.specs.Strands.{Try, scan, told, Outcome, unfound, lostAndRest, segmentAndRest, Scan, reading, outcomes, verdictsOf}
+use Rattle.code.specs.laws.Scan.{scan-passes}
 use Rattle.code.specs.declared.Edit.{Edit}
 use Rattle.code.specs.declared.Edit.the-variants.{None, Sub, Del, Ins}
 use Rattle.code.specs.declared.Verdict.{Verdict}
 use Rattle.code.specs.declared.Verdict.the-variants.{Read, Unknown, Lost, NoStart}
 
 -- there are as many outcomes as segments
-pub length-reading : (marked : Bool) (f : ℕ) (ks s letters : List ℕ) → length (reading marked f ks s letters) ≡ length ks
+pub length-reading : (look : Scan) (passed : ℕ) (marked : Bool) (f : ℕ) (ks s letters : List ℕ) → length (reading look passed marked f ks s letters) ≡ length ks
 unfolding reading
-length-reading marked f [] s letters = refl
-length-reading marked f (k ∷ ks) s letters = go (readSegment marked f k ks s letters) (λ g o. length-reading true g ks (drop o s) (drop o letters))
+length-reading look passed marked f [] s letters = refl
+length-reading look (suc passed) marked f (k ∷ ks) s letters = ap suc (length-reading look passed true f ks s letters)
+length-reading look zero marked f (k ∷ ks) s letters = go (readSegment marked f k ks s letters) (λ n g o. length-reading look n true g ks (drop o s) (drop o letters))
   where
-    next : ℕ → ℕ → List Outcome
-    next g o = reading true g ks (drop o s) (drop o letters)
+    next : ℕ → ℕ → ℕ → List Outcome
+    next n g o = reading look n true g ks (drop o s) (drop o letters)
 
-    scanned : (step : ℕ) (o : Option ℕ) → ((g o : ℕ) → length (next g o) ≡ length ks) → length (lostAndRest k ks s letters step next o) ≡ suc (length ks)
-    scanned step (some o) h = ap suc (h (getD s (o - 1) 0) o)
+    Later : Type 0
+    Later = (n g o : ℕ) → length (next n g o) ≡ length ks
+
+    scanned : (step : ℕ) (x : Option Try) → Later → length (lostAndRest k ks s letters step next x) ≡ suc (length ks)
+    scanned step (some t) h = ap suc (h (t .passed) (getD s (t .start - 1) 0) (t .start))
     scanned step none h = ap suc (simp length-map)
 
-    go : (r : SegmentResult) → ((g o : ℕ) → length (next g o) ≡ length ks) → length (segmentAndRest marked k ks s letters next r) ≡ suc (length ks)
-    go (read m e o) h = ap suc (h (lastOf m) o)
-    go (SegmentResult.lost step) h = scanned step (scan (size marked k) ks s letters) h
+    go : (r : SegmentResult) → Later → length (segmentAndRest k ks s letters next (look (size marked k) ks s letters) r) ≡ suc (length ks)
+    go (read m e o) h = ap suc (h 0 (lastOf m) o)
+    go (SegmentResult.lost step) h = scanned step (look (size marked k) ks s letters) h
+
+pub length-outcomes : (ks letters : List ℕ) → length (outcomes ks letters) ≡ length ks
+length-outcomes ks letters = length-reading scan 0 false 0 ks (asSymbols letters) letters
 
 -- the last segment ends with the strand
 last-end : (marked : Bool) (f k : ℕ) (s letters m : List ℕ) (e : Edit) (o : ℕ) → readSegment marked f k [] s letters ≡ read m e o → o ≡ length letters
@@ -55,29 +63,39 @@ unfolding pieces joined
 empty-pieces [] = refl
 empty-pieces (k ∷ ks) = empty-pieces ks
 
--- the pieces joined are the received strand
-pub joined-pieces : (marked : Bool) (f k : ℕ) (ks s letters : List ℕ) → joined (map (λ (o : Outcome). o .piece) (reading marked f (k ∷ ks) s letters)) ≡ letters
-unfolding reading pieces joined scan
-joined-pieces marked f k [] s letters = go (readSegment marked f k [] s letters) refl
+-- from a start on, fewer segments being passed than there are, the pieces joined are the letters
+pieces-reading : (passed : ℕ) (marked : Bool) (f : ℕ) (ks s letters : List ℕ) → passed < length ks → pieces (reading scan passed marked f ks s letters) ≡ letters
+unfolding reading pieces joined
+pieces-reading passed marked f [] s letters few = absurd (omega arith)
+pieces-reading (suc passed) marked f (k ∷ ks) s letters few = pieces-reading passed true f ks s letters (omega arith)
+pieces-reading zero marked f (k ∷ ks) s letters few =
+    go (readSegment marked f k ks s letters) refl (λ n g o l. pieces-reading n true g ks (drop o s) (drop o letters) l)
   where
-    go : (r : SegmentResult) → readSegment marked f k [] s letters ≡ r → pieces (segmentAndRest marked k [] s letters (λ g o. []) r) ≡ letters
-    go (read m e o) q = rw (last-end marked f k s letters m e o q, take-length letters) (append-nil letters)
-    go (SegmentResult.lost step) q = append-nil letters
-joined-pieces marked f k (k′ ∷ ks) s letters = go (readSegment marked f k (k′ ∷ ks) s letters) (λ g o. joined-pieces true g k′ ks (drop o s) (drop o letters))
-  where
-    next : ℕ → ℕ → List Outcome
-    next g o = reading true g (k′ ∷ ks) (drop o s) (drop o letters)
+    next : ℕ → ℕ → ℕ → List Outcome
+    next n g o = reading scan n true g ks (drop o s) (drop o letters)
+
+    Later : Type 0
+    Later = (n g o : ℕ) → n < length ks → pieces (next n g o) ≡ drop o letters
 
     both : (o : ℕ) (w : List ℕ) → w ≡ drop o letters → take o letters ++ w ≡ letters
     both o w e = rw e (take-append-drop o letters)
 
-    scanned : (step : ℕ) (o : Option ℕ) → ((g o : ℕ) → pieces (next g o) ≡ drop o letters) → pieces (lostAndRest k (k′ ∷ ks) s letters step next o) ≡ letters
-    scanned step (some o) h = both o (pieces (next (getD s (o - 1) 0) o)) (h (getD s (o - 1) 0) o)
-    scanned step none h = rw (empty-pieces ks) (append-nil letters)
+    scanned : (step : ℕ) (x : Option Try) → scan (size marked k) ks s letters ≡ x → Later → pieces (lostAndRest k ks s letters step next x) ≡ letters
+    scanned step (some t) q h = both (t .start) _ (h (t .passed) (getD s (t .start - 1) 0) (t .start) (scan-passes (size marked k) ks s letters t q))
+    scanned step none q h = rw (empty-pieces ks) (append-nil letters)
 
-    go : (r : SegmentResult) → ((g o : ℕ) → pieces (next g o) ≡ drop o letters) → pieces (segmentAndRest marked k (k′ ∷ ks) s letters next r) ≡ letters
-    go (read m e o) h = both o (pieces (next (lastOf m) o)) (h (lastOf m) o)
-    go (SegmentResult.lost step) h = scanned step (firstStart k′ s letters _) h
+    ended : (qs : List ℕ) (m : List ℕ) (e : Edit) (o : ℕ) → qs ≡ ks → readSegment marked f k qs s letters ≡ read m e o → Later → take o letters ++ pieces (next 0 (lastOf m) o) ≡ letters
+    ended [] m e o z q h = rw (← z, last-end marked f k s letters m e o q, take-length letters) (append-nil letters)
+    ended (x ∷ qs) m e o z q h = both o _ (h 0 (lastOf m) o (omega (arith, ap length z)))
+
+    go : (r : SegmentResult) → readSegment marked f k ks s letters ≡ r → Later → pieces (segmentAndRest k ks s letters next (scan (size marked k) ks s letters) r) ≡ letters
+    go (read m e o) q h = ended ks m e o refl q h
+    go (SegmentResult.lost step) q h = scanned step (scan (size marked k) ks s letters) refl h
+
+-- the pieces joined are the received strand
+pub joined-pieces : (ks letters : List ℕ) → 0 < length ks → joined (map (λ (o : Outcome). o .piece) (outcomes ks letters)) ≡ letters
+unfolding pieces
+joined-pieces ks letters some-segment = pieces-reading 0 false 0 ks (asSymbols letters) letters some-segment
 
 -- clean, corrected and lost segments are all
 mark-counts : (v : Verdict) → cond (eqb (markOf v) 0) 1 0 + (cond (eqb (markOf v) 1) 1 0 + cond (eqb (markOf v) 2) 1 0) ≡ 1
@@ -104,16 +122,7 @@ told-known Unknown piece h = refl
 told-known (Lost step) piece h = refl
 told-known NoStart piece h = refl
 
--- What a scan finds
-
-pub start-clean : (k : ℕ) (s letters os : List ℕ) (o : ℕ) → firstStart k s letters os ≡ some o → clean k (getD s (o - 1) 0) (drop o s) (drop o letters) ≡ true
-unfolding firstStart
-start-clean k s letters [] o e = let z : _≡_ {A = ℕ} 0 1 = cc in absurd (omega arith)
-start-clean k s letters (x ∷ os) o e = go (clean k (getD s (x - 1) 0) (drop x s) (drop x letters)) refl e (λ q. start-clean k s letters os o q)
-  where
-    go : (b : Bool) → clean k (getD s (x - 1) 0) (drop x s) (drop x letters) ≡ b → cond b (some x) (firstStart k s letters os) ≡ some o → (firstStart k s letters os ≡ some o → clean k (getD s (o - 1) 0) (drop o s) (drop o letters) ≡ true) → clean k (getD s (o - 1) 0) (drop o s) (drop o letters) ≡ true
-    go true t q next = let i : x ≡ o = cc in rw (← i) t
-    go false t q next = next q
+-- A clean segment is read
 
 -- a segment, its marker or nothing before it, in the parts that an edit may hit
 segment-pre : (marked : Bool) (f : ℕ) (m : List ℕ) → segment marked f m ≡ pre marked f m ++ ((m ++ check m ∷ []) ++ ending m)

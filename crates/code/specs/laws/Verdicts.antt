@@ -33,7 +33,7 @@ use Rattle.code.specs.Verdicts.{numbered, verdictNumber, verdictOf, Numb
 use Rattle.code.specs.Edits.{applied, same, firstEdit, judged}
 use Rattle.code.specs.Reading.{MessageResult, message, readMessage, endOf, SegmentResult, read, withEdit, withEnd, withMessage, readSegment}
 use Rattle.code.specs.Sheet.{markOf, marksOf}
-use Rattle.code.specs.Strands.{told, Outcome, scan, unfound, lostAndRest, segmentAndRest, reading, outcomes, verdictsOf}
+use Rattle.code.specs.Strands.{Try, scan, told, Outcome, unfound, Scan, lostAndRest, segmentAndRest, reading, outcomes, verdictsOf}
 use Rattle.code.specs.laws.ReadSegment.{read-parts}
 use Rattle.code.specs.laws.MessageLengths.{read-length}
 use Rattle.code.specs.laws.MessageBelow.{read-message-below}
@@ -178,26 +178,30 @@ told-numbered Unknown piece h = h
 told-numbered (Lost step) piece h = h
 told-numbered NoStart piece h = h
 
-reading-numbered : (marked : Bool) (f : ℕ) (ks s letters : List ℕ) → Below 4 s → Lengths longest ks → AllNumbered (verdictsOf (reading marked f ks s letters))
+reading-numbered : (look : Scan) (passed : ℕ) (marked : Bool) (f : ℕ) (ks s letters : List ℕ) → Below 4 s → Lengths longest ks → AllNumbered (verdictsOf (reading look passed marked f ks s letters))
 unfolding reading
-reading-numbered marked f [] s letters small done = tt
-reading-numbered marked f (k ∷ ks) s letters small (more two short ls) =
-    go (readSegment marked f k ks s letters) refl (λ g o. reading-numbered true g ks (drop o s) (drop o letters) (below-drop o s small) ls)
+reading-numbered look passed marked f [] s letters small done = tt
+reading-numbered look (suc passed) marked f (k ∷ ks) s letters small (more two short ls) = (tt, reading-numbered look passed true f ks s letters small ls)
+reading-numbered look zero marked f (k ∷ ks) s letters small (more two short ls) =
+    go (readSegment marked f k ks s letters) refl (λ n g o. reading-numbered look n true g ks (drop o s) (drop o letters) (below-drop o s small) ls)
   where
-    next : ℕ → ℕ → List Outcome
-    next g o = reading true g ks (drop o s) (drop o letters)
+    next : ℕ → ℕ → ℕ → List Outcome
+    next n g o = reading look n true g ks (drop o s) (drop o letters)
 
-    scanned : (step : ℕ) (o : Option ℕ) → step < 16 → ((g o : ℕ) → AllNumbered (verdictsOf (next g o))) → AllNumbered (verdictsOf (lostAndRest k ks s letters step next o))
-    scanned step (some o) l h = (l, h (getD s (o - 1) 0) o)
+    Later : Type 0
+    Later = (n g o : ℕ) → AllNumbered (verdictsOf (next n g o))
+
+    scanned : (step : ℕ) (x : Option Try) → step < 16 → Later → AllNumbered (verdictsOf (lostAndRest k ks s letters step next x))
+    scanned step (some t) l h = (l, h (t .passed) (getD s (t .start - 1) 0) (t .start))
     scanned step none l h = (l, unfound-numbered ks)
 
-    go : (r : SegmentResult) → readSegment marked f k ks s letters ≡ r → ((g o : ℕ) → AllNumbered (verdictsOf (next g o))) → AllNumbered (verdictsOf (segmentAndRest marked k ks s letters next r))
-    go (read m e o) q h = (told-numbered (Read e) (take o letters) (read-numbered marked f k ks s letters m e o small (omega arith) short q), h (lastOf m) o)
-    go (SegmentResult.lost step) q h = scanned step (scan (size marked k) ks s letters) (lost-numbered marked f k ks s letters step q) h
+    go : (r : SegmentResult) → readSegment marked f k ks s letters ≡ r → Later → AllNumbered (verdictsOf (segmentAndRest k ks s letters next (look (size marked k) ks s letters) r))
+    go (read m e o) q h = (told-numbered (Read e) (take o letters) (read-numbered marked f k ks s letters m e o small (omega arith) short q), h 0 (lastOf m) o)
+    go (SegmentResult.lost step) q h = scanned step (look (size marked k) ks s letters) (lost-numbered marked f k ks s letters step q) h
 
 -- every verdict of a reading has a number
 pub outcomes-numbered : (ks letters : List ℕ) → Lengths longest ks → AllNumbered (verdictsOf (outcomes ks letters))
-outcomes-numbered ks letters lengths = reading-numbered false 0 ks (asSymbols letters) letters (as-below letters) lengths
+outcomes-numbered ks letters lengths = reading-numbered scan 0 false 0 ks (asSymbols letters) letters (as-below letters) lengths
 
 all-back : (vs : List Verdict) → AllNumbered vs → map verdictOf (map verdictNumber vs) ≡ vs
 all-back [] h = refl

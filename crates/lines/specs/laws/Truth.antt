@@ -9,6 +9,7 @@ use native.Mathlib.Omega.{arith}
 use borrow.Author.Tests.{le-ltb}
 use lib.ListN.{length, getD, take, drop, length-append, length-set, take-append-drop}
 use lib.Seq.{length-take-le, take-length, drop-length, getD-set-same, getD-at}
+use Rattle.code.specs.laws.Lists.{drop-front}
 use Rattle.code.specs.Symbols.{Below, letterKinds, asSymbols, hasUnknown}
 use Rattle.code.specs.laws.Letters.{length-as, as-below, as-append, as-take, as-drop, as-same, as-known, asSymbol, as-applied}
 use Rattle.code.specs.laws.Below.{below-take, below-drop}
@@ -19,13 +20,14 @@ use Rattle.code.specs.Edits.{applied, placeOf, Fits, judged}
 use Rattle.code.specs.laws.Judged.{Named, judged-named, judged-fits, judged-left}
 use Rattle.code.specs.Reading.{endOf, SegmentResult, read, readSegment}
 use Rattle.code.specs.laws.ReadSegment.{Parts, read-parts}
-use Rattle.code.specs.Strands.{told, Outcome, scan, unfound, lostOutcome, lostAndRest, segmentAndRest, reading}
+use Rattle.code.specs.Strands.{Try, scan, told, Outcome, unfound, lostOutcome, lostAndRest, segmentAndRest, reading}
+use Rattle.code.specs.laws.Scan.{scan-passes}
 use Rattle.code.specs.laws.Strands.{clean-read}
 use Rattle.code.specs.declared.Edit.{Edit}
 use Rattle.code.specs.declared.Edit.the-variants.{None, Sub, Del, Ins}
 use Rattle.code.specs.declared.Verdict.the-variants.{Read, Unknown, Lost}
 use Rattle.lines.specs.Report.{inLetters, reported}
-use Rattle.lines.specs.Truth.{Site, symbolsAt, anew, Named-letter, Turns, Says, True-of, siteAt, siteBehind, True-from, True-lines}
+use Rattle.lines.specs.Truth.{Site, symbolsAt, anew, Named-letter, Turns, Says, True-of, siteAt, Onward, at, nowhere, onwardBehind, True-from, True-lines}
 use Rattle.lines.specs.laws.Steps.{turns-symbols, anew-below, first-lost}
 
 -- A front of letters
@@ -35,11 +37,6 @@ take-front : (o : ℕ) (l : List ℕ) → take (length (take o l)) l ≡ take o 
 take-front zero l = refl
 take-front (suc o) [] = refl
 take-front (suc o) (x ∷ l) = ap (_∷_ x) (take-front o l)
-
-drop-front : (o : ℕ) (l : List ℕ) → drop (length (take o l)) l ≡ drop o l
-drop-front zero l = refl
-drop-front (suc o) [] = refl
-drop-front (suc o) (x ∷ l) = drop-front o l
 
 -- A piece that equals a segment
 
@@ -195,14 +192,14 @@ module _ (p : Site) (k : ℕ) (ks : List ℕ) (two : 2 ≤ k) (legible : Below l
         }
 
     -- the next segment starts at the end of the piece
-    behind-read : siteBehind p k ks outcome (outcome .verdict) ≡ some (siteAt p (lastOf m) o)
-    behind-read = go e ∙ ap (λ (l : List ℕ). some (record { marked = true; f = lastOf m; letters = l })) (drop-front o (p .letters))
+    behind-read : onwardBehind p k ks outcome (outcome .verdict) ≡ at 0 (siteAt p (lastOf m) o)
+    behind-read = go e ∙ ap (λ (l : List ℕ). at 0 (record { marked = true; f = lastOf m; letters = l })) (drop-front o (p .letters))
       where
-        unknown : (b : Bool) → siteBehind p k ks outcome (cond b Unknown (Read None)) ≡ some (siteAt p (lastOf m) (length piece))
+        unknown : (b : Bool) → onwardBehind p k ks outcome (cond b Unknown (Read None)) ≡ at 0 (siteAt p (lastOf m) (length piece))
         unknown true = refl
         unknown false = refl
 
-        go : (d : Edit) → siteBehind p k ks outcome (told (Read d) piece) ≡ some (siteAt p (lastOf m) (length piece))
+        go : (d : Edit) → onwardBehind p k ks outcome (told (Read d) piece) ≡ at 0 (siteAt p (lastOf m) (length piece))
         go None = unknown (hasUnknown piece)
         go (Sub i x) = refl
         go (Del i x) = refl
@@ -225,48 +222,50 @@ module _ (p : Site) (k : ℕ) (ks : List ℕ) (two : 2 ≤ k) (legible : Below l
       never n r = let w = sym r ∙ q in let z : _≡_ {A = ℕ} 0 1 = cc in absurd (omega arith)
 
 -- Segments for which no start was found
-unfound-true : (ks : List ℕ) → True-from none ks (map unfound ks)
+unfound-true : (ks : List ℕ) → True-from nowhere ks (map unfound ks)
 unfound-true [] = tt
 unfound-true (k ∷ ks) = (refl, refl, unfound-true ks)
 
 -- The whole strand
 
--- behind the last segment nothing is sought
-scan-last : (n : ℕ) (ks s letters : List ℕ) (o : ℕ) → ks ≡ [] → scan n ks s letters ≡ some o → ⊥
-unfolding scan
-scan-last n [] s letters o z y = let w : _≡_ {A = ℕ} 0 1 = cc in omega arith
-scan-last n (k ∷ ks) s letters o z y = cons≢nil z
-
-true-from : {most : ℕ} (p : Site) (ks : List ℕ) → Lengths most ks → Below letterKinds (p .letters) → True-from (some p) ks (reading (p .marked) (p .f) ks (symbolsAt p) (p .letters))
+-- segments are passed only before one with a marker
+true-from : {most : ℕ} (n : ℕ) (p : Site) (ks : List ℕ) → (0 < n → p .marked ≡ true) → Lengths most ks → Below letterKinds (p .letters) → True-from (at n p) ks (reading scan n (p .marked) (p .f) ks (symbolsAt p) (p .letters))
 unfolding reading
-true-from p [] done legible = tt
-true-from p (k ∷ ks) (more two _ ls) legible = go (found p k ks two) refl (λ f o. true-from (siteAt p f o) ks ls (below-drop o (p .letters) legible))
+true-from n p [] has done legible = tt
+true-from (suc n) p (k ∷ ks) has (more two _ ls) legible =
+    let e = has (omega arith) in
+    (refl, refl, subst (λ (b : Bool). True-from (at n p) ks (reading scan n b (p .f) ks (symbolsAt p) (p .letters))) e (true-from n p ks (λ h. e) ls legible))
+true-from zero p (k ∷ ks) has (more two _ ls) legible = go (found p k ks two) refl (λ n f o. true-from n (siteAt p f o) ks (λ h. refl) ls (below-drop o (p .letters) legible))
   where
-    next : ℕ → ℕ → List Outcome
-    next f o = reading true f ks (drop o (symbolsAt p)) (drop o (p .letters))
+    next : ℕ → ℕ → ℕ → List Outcome
+    next n f o = reading scan n true f ks (drop o (symbolsAt p)) (drop o (p .letters))
 
     Later : Type 0
-    Later = (f o : ℕ) → True-from (some (siteAt p f o)) ks (reading true f ks (symbolsAt (siteAt p f o)) (drop o (p .letters)))
+    Later = (n f o : ℕ) → True-from (at n (siteAt p f o)) ks (reading scan n true f ks (symbolsAt (siteAt p f o)) (drop o (p .letters)))
 
-    behind : Later → (f o : ℕ) → True-from (some (siteAt p f o)) ks (next f o)
-    behind h f o = subst (λ (w : List ℕ). True-from (some (siteAt p f o)) ks (reading true f ks w (drop o (p .letters)))) (as-drop o (p .letters)) (h f o)
+    behind : Later → (n f o : ℕ) → True-from (at n (siteAt p f o)) ks (next n f o)
+    behind h n f o = subst (λ (w : List ℕ). True-from (at n (siteAt p f o)) ks (reading scan n true f ks w (drop o (p .letters)))) (as-drop o (p .letters)) (h n f o)
 
-    scanned : (step : ℕ) → found p k ks two ≡ SegmentResult.lost step → (o : Option ℕ) → scan (size (p .marked) k) ks (symbolsAt p) (p .letters) ≡ o → Later → True-from (some p) (k ∷ ks) (lostAndRest k ks (symbolsAt p) (p .letters) step next o)
-    scanned step q (some o) y h = (
-      lost-true p k ks two legible step (take o (p .letters)) q (take-front o (p .letters)) (λ z. absurd (scan-last (size (p .marked) k) ks (symbolsAt p) (p .letters) o z y)),
-      rw y (behind h (getD (symbolsAt p) (o - 1) 0) o),
+    -- behind the last segment nothing is sought
+    not-last : (t : Try) → scan (size (p .marked) k) ks (symbolsAt p) (p .letters) ≡ some t → ks ≡ [] → ⊥
+    not-last t y z = omega (arith, scan-passes (size (p .marked) k) ks (symbolsAt p) (p .letters) t y, ap length z)
+
+    scanned : (step : ℕ) → found p k ks two ≡ SegmentResult.lost step → (x : Option Try) → scan (size (p .marked) k) ks (symbolsAt p) (p .letters) ≡ x → Later → True-from (at 0 p) (k ∷ ks) (lostAndRest k ks (symbolsAt p) (p .letters) step next x)
+    scanned step q (some t) y h = (
+      lost-true p k ks two legible step (take (t .start) (p .letters)) q (take-front (t .start) (p .letters)) (λ z. absurd (not-last t y z)),
+      rw y (behind h (t .passed) (getD (symbolsAt p) (t .start - 1) 0) (t .start)),
     )
     scanned step q none y h = (
       lost-true p k ks two legible step (p .letters) q (take-length (p .letters)) (λ z. refl),
       rw y (unfound-true ks),
     )
 
-    go : (r : SegmentResult) → found p k ks two ≡ r → Later → True-from (some p) (k ∷ ks) (segmentAndRest (p .marked) k ks (symbolsAt p) (p .letters) next r)
+    go : (r : SegmentResult) → found p k ks two ≡ r → Later → True-from (at 0 p) (k ∷ ks) (segmentAndRest k ks (symbolsAt p) (p .letters) next (scan (size (p .marked) k) ks (symbolsAt p) (p .letters)) r)
     go (read m e o) q h = (
       read-true p k ks two legible m e o q,
-      subst (λ (site : Option Site). True-from site ks (next (lastOf m) o)) (sym (behind-read p k ks two legible m e o q)) (behind h (lastOf m) o),
+      subst (λ (x : Onward). True-from x ks (next 0 (lastOf m) o)) (sym (behind-read p k ks two legible m e o q)) (behind h 0 (lastOf m) o),
     )
     go (SegmentResult.lost step) q h = scanned step q (scan (size (p .marked) k) ks (symbolsAt p) (p .letters)) refl h
 
 pub true-lines : True-lines
-true-lines most ks letters lengths legible = true-from (record { marked = false; f = 0; letters = letters }) ks lengths legible
+true-lines most ks letters lengths legible = true-from 0 (record { marked = false; f = 0; letters = letters }) ks (λ h. absurd (omega arith)) lengths legible

@@ -12,9 +12,9 @@ after-separator-spec =
     (tie.spec
     (λ c. omega arith)
     (λ c κs. omega arith)
-    (λ c. omega (arith, c .moved-by .ensures, tried-small (c .before .args .k + 1) (c .before .args .j) (omega arith)))
-    (λ c. omega (arith, c .moved-by .ensures, tried-small (c .before .args .k + 1) (c .before .args .j) (omega arith)))
+    (λ c. omega (arith, c .moved-by .ensures, tried-small (c .before .args .k + 1) (c .before .args .j)))
+    (λ c. omega (arith, c .moved-by .ensures, tried-small (c .before .args .k + 1) (c .before .args .j)))
     (λ c.
     let a = c .before .args in
     let e = c .moved-by .ensures in
-    (ap (λ (n : ℕ). a .d + (n + 3)) (e ∙ tried-shift (a .k + 1) (a .j) (omega arith)), omega (arith, e, tried-small (a .k + 1) (a .j) (omega arith)))))
+    (ap (λ (n : ℕ). a .d + (n + 3)) (e ∙ tried-shift (a .k + 1) (a .j) (omega arith)), omega (arith, e, tried-small (a .k + 1) (a .j)))))

@@ -30,11 +30,11 @@ find-separator-spec =
     (λ c.
     let l = c .before .before .loop in
     let a = c .before .before .before .before .args in
-    omega (arith, c .moved-by .ensures, tried-small (a .k + 1) (l .j) (omega arith)))
+    omega (arith, c .moved-by .ensures, tried-small (a .k + 1) (l .j)))
     (λ c κs.
     let l = c .before .before .loop in
     let a = c .before .before .before .before .args in
-    omega (arith, c .moved-by .ensures, tried-small (a .k + 1) (l .j) (omega arith)))
+    omega (arith, c .moved-by .ensures, tried-small (a .k + 1) (l .j)))
     (λ c.
     let l = c .before .before .before .before .loop in
     let a = c .before .before .before .before .before .before .args in

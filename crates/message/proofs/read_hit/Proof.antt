@@ -26,7 +26,7 @@ add-taken c =
     let a = b .args in
     let j = c .before .before .found .given .0 .0 in
     let f = found-moved (length (a .out .now)) (drop (a .p + 2) (a .s .now)) (a .found) (b .pre .1) j (c .before .before .found .given .1) in
-    omega (arith, b .pre .0 .0 .short, c .moved-by .ensures, tried-small 2 j (omega (arith, f .number)))
+    omega (arith, b .pre .0 .0 .short, c .moved-by .ensures, tried-small 2 j, f .number)
 
 taken-requires : tie.Need-taken-requires
 taken-requires c κs =

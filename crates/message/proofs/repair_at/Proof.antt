@@ -88,7 +88,7 @@ repair-at-spec =
     (λ c κs. omega arith)
     (λ c.
     let a = c .before .before .before .before .before .before .args in
-    omega (arith, c .moved-by .ensures, tried-small (length (a .out .now)) (a .j) (omega arith)))
+    omega (arith, c .moved-by .ensures, tried-small (length (a .out .now)) (a .j)))
     received-sums-requires
     (λ c κs. search needs)
     (λ c. search needs)

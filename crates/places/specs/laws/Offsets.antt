@@ -1,8 +1,8 @@
--- Laws of offsets: the three shifts, and the starts of a scan.
+-- Laws of offsets: the three shifts, and the places about another.
 use mathlib.Core.Path.{_≡_, refl, _∙_}
 use mathlib.Core.Bool.{Bool, true, false, cond}
 use mathlib.Core.List.{_∷_}
-use Prim.Native.Nat.{ℕ, zero, suc, _+_, _-_, _/_, _%_, _≤_, _<_}
+use Prim.Native.Nat.{ℕ, zero, suc, _+_, _-_, _*_, _/_, _%_, _≤_, _<_}
 use native.Mathlib.Omega.{arith}
 use borrow.Author.Tests.{eq-eqb, ne-eqb, eqb-true, eqb-false}
 use lib.Dec.{eqb}
@@ -20,12 +20,32 @@ tried-early n = refl
 pub tried-late : (n : ℕ) → triedAt n 2 ≡ moved late n
 tried-late n = refl
 
-pub tried-small : (n i : ℕ) → i < 17 → triedAt n i ≤ n + 8
-tried-small n i h = go (eqb (i % 2) 0)
+pub tried-small : (n i : ℕ) → triedAt n i ≤ n + i / 2
+tried-small n i = go (eqb (i % 2) 0)
   where
-    go : (b : Bool) → cond b (n + i / 2) (n - (i + 1) / 2) ≤ n + 8
+    go : (b : Bool) → cond b (n + i / 2) (n - (i + 1) / 2) ≤ n + i / 2
     go true = omega arith
     go false = omega arith
+
+-- a place behind n
+pub tried-even : (n i : ℕ) → i % 2 ≡ 0 → triedAt n i ≡ n + i / 2
+tried-even n i e = rw (eq-eqb (i % 2) 0 e)
+
+-- the places before the first that is at most `last` are above it
+pub tried-above : (n last i : ℕ) → i < 2 * (n - last) - 1 → last < triedAt n i
+tried-above n last i h = go (eqb (i % 2) 0)
+  where
+    go : (b : Bool) → last < cond b (n + i / 2) (n - (i + 1) / 2)
+    go true = omega arith
+    go false = omega arith
+
+-- from there on only those behind n are
+pub tried-behind : (n last i : ℕ) → n ≤ last + (i + 1) / 2 → last < triedAt n i → i % 2 ≡ 0
+tried-behind n last i l h = go (eqb (i % 2) 0) refl h
+  where
+    go : (b : Bool) → eqb (i % 2) 0 ≡ b → last < cond b (n + i / 2) (n - (i + 1) / 2) → i % 2 ≡ 0
+    go true e q = eqb-true (i % 2) 0 e
+    go false e q = absurd (omega arith)
 
 pairs-at : (n d c i : ℕ) → i < c + c → getD (pairs n d c) i 0 ≡ cond (eqb (i % 2) 0) (n - (d + i / 2)) (n + (d + i / 2))
 unfolding pairs
@@ -37,15 +57,19 @@ pairs-at n d (suc c) (suc (suc i)) h =
     let f : d + suc (suc i) / 2 ≡ suc d + i / 2 = omega arith in
     rw (e, f) (pairs-at n (suc d) c i (omega arith))
 
--- a scan tries 17 places
+-- the places about n, c to each side
 
-pub scan-length : (n : ℕ) → length (n ∷ pairs n 1 8) ≡ 17
+length-pairs : (n d c : ℕ) → length (pairs n d c) ≡ 2 * c
 unfolding pairs
-scan-length n = refl
+length-pairs n d zero = refl
+length-pairs n d (suc c) = omega (arith, length-pairs n (suc d) c)
 
-pub scan-at : (n i : ℕ) → i < 17 → getD (n ∷ pairs n 1 8) i 0 ≡ triedAt n i
-scan-at n zero h = omega arith
-scan-at n (suc i) h = pairs-at n 1 8 i (omega arith) ∙ go (eqb (i % 2) 0) refl
+pub about-length : (n c : ℕ) → length (n ∷ pairs n 1 c) ≡ 2 * c + 1
+about-length n c = omega (arith, length-pairs n 1 c)
+
+pub about-at : (n c i : ℕ) → i ≤ 2 * c → getD (n ∷ pairs n 1 c) i 0 ≡ triedAt n i
+about-at n c zero h = omega arith
+about-at n c (suc i) h = pairs-at n 1 c i (omega arith) ∙ go (eqb (i % 2) 0) refl
   where
     go : (b : Bool) → eqb (i % 2) 0 ≡ b → cond b (n - (1 + i / 2)) (n + (1 + i / 2)) ≡ triedAt n (suc i)
     go true e =

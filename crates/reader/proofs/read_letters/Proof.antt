@@ -5,8 +5,7 @@ use Prim.Native.Nat.{ℕ, _*_, _/_}
 use native.Mathlib.Omega.{arith}
 use borrow.Author.Needs.{needs}
 use lib.ListN.{length, take, drop, replicate, length-take}
-use Rattle.code.specs.Symbols.{asSymbols, bytes}
-use Rattle.code.specs.laws.Letters.{as-below}
+use Rattle.code.specs.Symbols.{bytes}
 use Rattle.code.specs.laws.Symbols.{length-bytes}
 use Rattle.code.specs.laws.Layout.{lengths-within}
 use Rattle.code.specs.Order.{Order, order}
@@ -87,7 +86,7 @@ pack-requires c κs =
     let b = c .before .before .before .before .before .before .before .before .before .before .before .before .before in
     let a = b .args in
     let f = symbols-front (c .before .before .before .before .before) in
-    let small = front-below _ _ _ f (messages-below false 0 (a .lengths .now) (asSymbols (a .letters .now)) (a .letters .now) (as-below (a .letters .now))) in
+    let small = front-below _ _ _ f (messages-below (a .lengths .now) (a .letters .now)) in
     (λ i. omega (arith, small i), omega (arith, f .count, room (order-of b) _ _ (b .pre .1 .1) .0))
 
 array-share-prefix-verdicts : tie.Need-array-share-prefix-verdicts

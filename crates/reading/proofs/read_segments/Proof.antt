@@ -3,7 +3,8 @@ use native.Mathlib.Omega.{arith}
 use borrow.Author.Needs.{needs}
 use lib.ListN.{length}
 use Rattle.code.specs.laws.Letters.{as-length}
-use Rattle.reading.proofs.Walk.{first-length, Walk, walk-begin, walk-small, walk-inside, walk-room, walk-asks, walk-numbered, walk-piece, walk-known, walk-number, walk-turn, walk-end}
+use Rattle.code.specs.laws.Lists.{first-rest}
+use Rattle.reading.proofs.Walk.{Walk, walk-begin, walk-small, walk-inside, walk-room, walk-asks, walk-numbered, walk-piece, walk-known, walk-number, walk-turn, walk-end}
 use Rattle.reading.proofs.read_segments.Statement.{statement}
 use Rattle.reading.proofs.read_segments.Tie as tie
 
@@ -25,7 +26,7 @@ cast-to c =
     let b = c .before .before .before .before .before .before .before .before .before in
     let a = b .args in
     let l = c .before .before .loop in
-    let first = first-length (l .rest .now) (c .before .loop-test .taken) in
+    let first = first-rest (l .rest .now) (c .before .loop-test .taken) in
     record { fits = omega (arith, walk-small (a .lengths .now) (a .s .now) (a .letters .now) (b .pre .0 .2) _ _ _ _ _ _ _ _ (l .inv) _ _ first) }
 
 add-to : tie.Need-add-to Inv-loop μ-loop
@@ -33,7 +34,7 @@ add-to c =
     let b = c .before .before .before .before .before .before .before .before .before in
     let a = b .args in
     let l = c .before .before .loop in
-    let first = first-length (l .rest .now) (c .before .loop-test .taken) in
+    let first = first-rest (l .rest .now) (c .before .loop-test .taken) in
     let room = walk-room (a .lengths .now) (a .s .now) (a .letters .now) (b .pre .0 .2) _ _ _ _ _ _ _ _ (l .inv) _ _ first in
     search needs
 
@@ -42,7 +43,7 @@ part-read-segment-end c =
     let b = c .before .before .before .before .before .before .before .before .before .before in
     let a = b .args in
     let l = c .before .before .before .loop in
-    let first = first-length (l .rest .now) (c .before .before .loop-test .taken) in
+    let first = first-rest (l .rest .now) (c .before .before .loop-test .taken) in
     let room = walk-room (a .lengths .now) (a .s .now) (a .letters .now) (b .pre .0 .2) _ _ _ _ _ _ _ _ (l .inv) _ _ first in
     search needs
 
@@ -51,7 +52,7 @@ read-segment-requires c κs =
     let b = c .before .before .before .before .before .before .before .before .before .before .before in
     let a = b .args in
     let l = c .before .before .before .before .loop in
-    let first = first-length (l .rest .now) (c .before .before .before .loop-test .taken) in
+    let first = first-rest (l .rest .now) (c .before .before .before .loop-test .taken) in
     let asked = walk-asks (a .lengths .now) (a .s .now) (a .letters .now) (b .pre .0 .2) _ _ _ _ _ _ _ _ (l .inv) _ _ first in
     ((b .pre .0 .0, asked .0, asked .1, b .pre .0 .2), (asked .2, l .inv .marked))
 
@@ -60,7 +61,7 @@ number-of-requires c κs =
     let b = c .before .before .before .before .before .before .before .before .before .before .before .before .before .before in
     let a = b .args in
     let l = c .before .before .before .before .before .before .before .loop in
-    let first = first-length (l .rest .now) (c .before .before .before .before .before .before .loop-test .taken) in
+    let first = first-rest (l .rest .now) (c .before .before .before .before .before .before .loop-test .taken) in
     let g = c .before .before .read-segment in
     walk-numbered (a .lengths .now) (a .s .now) (a .letters .now) (b .pre .0 .2) _ _ _ _ _ _ _ _ (l .inv) _ _ first _ (g .result) (g .ensures) (b .pre .0 .0)
 
@@ -70,7 +71,7 @@ sub-said-of c =
     let b = c .before .before .before .before .before .before .before .before .before .before .before .before .before .before .before .before in
     let a = b .args in
     let l = c .before .before .before .before .before .before .before .before .before .loop in
-    let first = first-length (l .rest .now) (c .before .before .before .before .before .before .before .before .loop-test .taken) in
+    let first = first-rest (l .rest .now) (c .before .before .before .before .before .before .before .before .loop-test .taken) in
     let g = c .before .before .before .before .read-segment in
     walk-piece (a .lengths .now) (a .s .now) (a .letters .now) (b .pre .0 .2) _ _ _ _ _ _ _ _ (l .inv) _ _ first _ (g .result) (g .ensures) _ (c .next-place .ensures) .0
 
@@ -79,7 +80,7 @@ part-said-of-end c =
     let b = c .before .before .before .before .before .before .before .before .before .before .before .before .before .before .before .before in
     let a = b .args in
     let l = c .before .before .before .before .before .before .before .before .before .loop in
-    let first = first-length (l .rest .now) (c .before .before .before .before .before .before .before .before .loop-test .taken) in
+    let first = first-rest (l .rest .now) (c .before .before .before .before .before .before .before .before .loop-test .taken) in
     let g = c .before .before .before .before .read-segment in
     walk-piece (a .lengths .now) (a .s .now) (a .letters .now) (b .pre .0 .2) _ _ _ _ _ _ _ _ (l .inv) _ _ first _ (g .result) (g .ensures) _ (c .next-place .ensures) .1
 
@@ -88,7 +89,7 @@ said-of-requires c κs =
     let b = c .before .before .before .before .before .before .before .before .before .before .before .before .before .before .before .before .before in
     let a = b .args in
     let l = c .before .before .before .before .before .before .before .before .before .before .loop in
-    let first = first-length (l .rest .now) (c .before .before .before .before .before .before .before .before .before .loop-test .taken) in
+    let first = first-rest (l .rest .now) (c .before .before .before .before .before .before .before .before .before .loop-test .taken) in
     let g = c .before .before .before .before .before .read-segment in
     let e = c .before .next-place .ensures in (
       walk-number (a .lengths .now) (a .s .now) (a .letters .now) (b .pre .0 .2) _ _ _ _ _ _ _ _ (l .inv) _ _ first _ (g .result) (g .ensures) _ e (b .pre .0 .0) _ (c .before .before .number-of .ensures),
@@ -100,7 +101,7 @@ slice-write-verdicts c =
     let b = c .before .before .before .before .before .before .before .before .before .before .before .before .before .before .before .before .before .before in
     let a = b .args in
     let l = c .before .before .before .before .before .before .before .before .before .before .before .loop in
-    let first = first-length (l .rest .now) (c .before .before .before .before .before .before .before .before .before .before .loop-test .taken) in
+    let first = first-rest (l .rest .now) (c .before .before .before .before .before .before .before .before .before .before .loop-test .taken) in
     omega (arith, l .inv .verdicts-room, walk-inside (a .lengths .now) (a .s .now) (a .letters .now) (b .pre .0 .2) _ _ _ _ _ _ _ _ (l .inv) _ _ first)
 
 -- an end is small
@@ -109,7 +110,7 @@ cast-ends c =
     let b = c .before .before .before .before .before .before .before .before .before .before .before .before .before .before .before .before .before .before in
     let a = b .args in
     let l = c .before .before .before .before .before .before .before .before .before .before .before .loop in
-    let first = first-length (l .rest .now) (c .before .before .before .before .before .before .before .before .before .before .loop-test .taken) in
+    let first = first-rest (l .rest .now) (c .before .before .before .before .before .before .before .before .before .before .loop-test .taken) in
     let g = c .before .before .before .before .before .before .read-segment in
     record { fits = omega (arith, walk-piece (a .lengths .now) (a .s .now) (a .letters .now) (b .pre .0 .2) _ _ _ _ _ _ _ _ (l .inv) _ _ first _ (g .result) (g .ensures) _ (c .before .before .next-place .ensures) .1, as-length (a .s .now) (a .letters .now) (b .pre .0 .2), b .pre .0 .0 .short) }
 
@@ -118,7 +119,7 @@ slice-write-ends c =
     let b = c .before .before .before .before .before .before .before .before .before .before .before .before .before .before .before .before .before .before in
     let a = b .args in
     let l = c .before .before .before .before .before .before .before .before .before .before .before .loop in
-    let first = first-length (l .rest .now) (c .before .before .before .before .before .before .before .before .before .before .loop-test .taken) in
+    let first = first-rest (l .rest .now) (c .before .before .before .before .before .before .before .before .before .before .loop-test .taken) in
     omega (arith, l .inv .ends-room, walk-inside (a .lengths .now) (a .s .now) (a .letters .now) (b .pre .0 .2) _ _ _ _ _ _ _ _ (l .inv) _ _ first)
 
 add-i : tie.Need-add-i Inv-loop μ-loop
@@ -126,19 +127,19 @@ add-i c =
     let b = c .before .before .before .before .before .before .before .before .before .before .before .before .before .before .before .before .before .before in
     let a = b .args in
     let l = c .before .before .before .before .before .before .before .before .before .before .before .loop in
-    let first = first-length (l .rest .now) (c .before .before .before .before .before .before .before .before .before .before .loop-test .taken) in
+    let first = first-rest (l .rest .now) (c .before .before .before .before .before .before .before .before .before .before .loop-test .taken) in
     let inside = walk-inside (a .lengths .now) (a .s .now) (a .letters .now) (b .pre .0 .2) _ _ _ _ _ _ _ _ (l .inv) _ _ first in
     search needs
 
 loop-less : tie.Need-loop-less Inv-loop μ-loop
-loop-less c = omega (arith, ap length (first-length (c .before .before .before .before .before .before .before .before .before .before .before .loop .rest .now) (c .before .before .before .before .before .before .before .before .before .before .loop-test .taken)))
+loop-less c = omega (arith, ap length (first-rest (c .before .before .before .before .before .before .before .before .before .before .before .loop .rest .now) (c .before .before .before .before .before .before .before .before .before .before .loop-test .taken)))
 
 loop-again : tie.Need-loop-again Inv-loop μ-loop
 loop-again c =
     let b = c .before .before .before .before .before .before .before .before .before .before .before .before .before .before .before .before .before .before in
     let a = b .args in
     let l = c .before .before .before .before .before .before .before .before .before .before .before .loop in
-    let first = first-length (l .rest .now) (c .before .before .before .before .before .before .before .before .before .before .loop-test .taken) in
+    let first = first-rest (l .rest .now) (c .before .before .before .before .before .before .before .before .before .before .loop-test .taken) in
     let g = c .before .before .before .before .before .before .read-segment in
     walk-turn (a .lengths .now) (a .s .now) (a .letters .now) (b .pre .0 .2) _ _ _ _ _ _ _ _ (l .inv) _ _ first _ (g .result) (g .ensures) _ (c .before .before .next-place .ensures) (b .pre .0 .0) _ (c .before .before .before .number-of .ensures) _ (c .said-of .ensures)
 

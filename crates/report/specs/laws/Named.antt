@@ -3,25 +3,23 @@
 --   outcomes-name    those of a reading do
 --   lines-room       the most bytes of a report
 use mathlib.Core.Path.{_≡_}
-use mathlib.Core.Bool.{false}
 use mathlib.Core.List.{List, [], _∷_, map}
-use mathlib.Core.Option.{Option, some, none}
-use Prim.Native.Nat.{ℕ, _≤_}
+use Prim.Native.Nat.{ℕ, zero, suc, _≤_}
 use native.Mathlib.Omega.{arith}
 use lib.ListN.{length, length-map}
-use Rattle.code.specs.Symbols.{Below, letterKinds, asSymbols}
+use Rattle.code.specs.Symbols.{Below, letterKinds}
 use Rattle.code.specs.Layout.{Lengths}
 use Rattle.code.specs.Bounds.{longest}
 use Rattle.code.specs.Limits.{mostSegments}
 use Rattle.code.specs.Verdicts.{Numbered}
 use Rattle.code.specs.laws.Verdicts.{AllNumbered, outcomes-numbered}
 use Rattle.code.specs.Strands.{Outcome, outcomes, verdictsOf}
-use Rattle.code.specs.laws.Strands.{length-reading}
+use Rattle.code.specs.laws.Strands.{length-outcomes}
 use Rattle.code.specs.declared.Edit.the-variants.{None, Sub, Del, Ins}
 use Rattle.code.specs.declared.Verdict.{Verdict}
 use Rattle.code.specs.declared.Verdict.the-variants.{Read, Unknown, Lost, NoStart}
 use Rattle.lines.specs.Report.{inLetters, reported, linesOf, mostReport}
-use Rattle.lines.specs.Truth.{Site, Lettered, Says, True-from}
+use Rattle.lines.specs.Truth.{Site, Lettered, Says, Onward, at, nowhere, True-from}
 use Rattle.report.specs.Walked.{Inside}
 use Rattle.lines.specs.laws.Lines.{lines-most}
 use Rattle.lines.specs.laws.Steps.{anew-below}
@@ -54,12 +52,13 @@ abbrev pub AllName : List Outcome → Type 0
 AllName [] = Unit {0}
 AllName (o ∷ os) = Names (o .piece) (o .verdict) × AllName os
 
-true-names : (site : Option Site) (ks : List ℕ) (os : List Outcome) → True-from site ks os → AllName os
-true-names site [] [] t = tt
-true-names site [] (o ∷ os) t = absurd t
-true-names site (k ∷ ks) [] t = absurd t
-true-names (some p) (k ∷ ks) (o ∷ os) t = (says-names p k ks (o .piece) (o .message) (o .verdict) (t .0 .says), true-names _ ks os (t .1))
-true-names none (k ∷ ks) (o ∷ os) t = (unfound-names (o .piece) (o .verdict) (t .0), true-names none ks os (t .2))
+true-names : (x : Onward) (ks : List ℕ) (os : List Outcome) → True-from x ks os → AllName os
+true-names x [] [] t = tt
+true-names x [] (o ∷ os) t = absurd t
+true-names x (k ∷ ks) [] t = absurd t
+true-names (at zero p) (k ∷ ks) (o ∷ os) t = (says-names p k ks (o .piece) (o .message) (o .verdict) (t .0 .says), true-names _ ks os (t .1))
+true-names (at (suc n) p) (k ∷ ks) (o ∷ os) t = (unfound-names (o .piece) (o .verdict) (t .0), true-names (at n p) ks os (t .2))
+true-names nowhere (k ∷ ks) (o ∷ os) t = (unfound-names (o .piece) (o .verdict) (t .0), true-names nowhere ks os (t .2))
 
 -- what is reported has a number
 reported-numbered : (piece : List ℕ) (v : Verdict) → Numbered v → Names piece v → Numbered (inLetters v piece)
@@ -85,6 +84,6 @@ module _ (ks letters : List ℕ) (lengths : Lengths longest ks) (legible : Below
   pub lines-room : length ks ≤ mostSegments → length (linesOf (outcomes ks letters)) ≤ mostReport
   lines-room l =
       let os = outcomes ks letters in
-      let n = length-reading false 0 ks (asSymbols letters) letters in
+      let n = length-outcomes ks letters in
       let m : length (map reported os) ≡ length os = simp length-map in
       omega (arith, lines-most 1 (map reported os) (omega arith) (all-numbered os (outcomes-numbered ks letters lengths) outcomes-name), m)

@@ -1,110 +1,199 @@
-use mathlib.Core.Path.{_≡_, refl, sym, ap, _∙_}
+use mathlib.Core.Path.{_≡_, sym, ap, _∙_}
 use mathlib.Core.Bool.{true, false}
-use Prim.Native.Nat.{_+_, _-_, _≤_}
+use Prim.Native.Nat.{_+_, _-_, _*_, _≤_}
 use native.Mathlib.Omega.{arith}
 use borrow.Author.Needs.{needs}
 use borrow.Author.Tests.{not-true, not-false}
 use lib.ListN.{length, take, drop}
 use lib.Seq.{drop-drop}
 use Rattle.code.specs.Symbols.{asSymbols, hasUnknown}
-use Rattle.code.specs.laws.Letters.{length-as, as-below}
+use Rattle.code.specs.laws.Letters.{as-below}
+use Rattle.code.specs.Segment.{size}
 use Rattle.code.specs.Reading.{clean}
-use Rattle.places.specs.laws.Offsets.{tried-small}
 use Rattle.scan.specs.declared.Next.the-variants.{Clean}
 use Rattle.scan.specs.Scans.{letterBefore}
-use Rattle.scan.specs.laws.Scans.{clean-short, clean-known, clean-unknown, unclean, letter-below}
-use Rattle.scan.proofs.Search.{left, left-whole, left-end, left-zero, left-pass, left-found, unmarked, marked, Compared, compared-begin, compared-turn, compared-stop, compared-end, size-is, width-small, part-long, part-tail, part-width}
+use Rattle.scan.specs.laws.Scans.{clean-known, clean-unknown, unclean, unequal-unclean, repeated-unclean, unseparated-unclean, letter-below}
+use Rattle.scan.proofs.Search.{none-whole, Turn, turn-begin, turn-end, turn-past, turn-zero, turn-unclean, turn-pass, turn-found, unmarked, marked, Compared, compared-begin, compared-turn, compared-stop, compared-end, size-is, width-small, part-long, part-tail, part-width}
 use Rattle.scan.proofs.find_clean.Statement.{statement}
 use Rattle.scan.proofs.find_clean.Tie as tie
 
 abbrev Inv-loop : tie.InvT-loop
-Inv-loop letters p n k count received f size tried offset at before behind tail width j₀ j = Compared letters tail behind (clean k (letterBefore received f (asSymbols letters) at) (drop at letters) (drop at letters)) j
+Inv-loop letters p n k wide received f passed size last tried step offset at mark behind before tail width j₀ j = Compared letters tail behind (clean k (letterBefore received f (asSymbols letters) at) (drop at letters) (drop at letters)) j
 
 abbrev μ-loop : tie.MeasureT-loop
-μ-loop letters p n k count received f size tried offset at before behind tail width j₀ j = 4 + width - j
+μ-loop letters p n k wide received f passed size last tried step offset at mark behind before tail width j₀ j = 4 + width - j
 
 abbrev Inv-starts : tie.InvT-starts
-Inv-starts letters p n k count received f size tried₀ tried = (tried ≤ count) × (left letters p n k count received f 0 ≡ left letters p n k count received f tried)
+Inv-starts letters p n k wide received f passed size last tried₀ step₀ tried step = Turn letters p n k wide received f passed last tried step
 
 abbrev μ-starts : tie.MeasureT-starts
-μ-starts letters p n k count received f size tried₀ tried = count - tried
+μ-starts letters p n k wide received f passed size last tried₀ step₀ tried step = 2 * n + 3 - tried
 
 size-of-requires : tie.Need-size-of-requires Inv-loop μ-loop Inv-starts μ-starts
 size-of-requires c κs = (omega arith, omega arith)
 
+add-if1 : tie.Need-add-if1 Inv-loop μ-loop Inv-starts μ-starts
+add-if1 c = omega (arith, c .size-of .ensures, size-is (c .before .before .args .k), width-small (c .before .before .args .k) (omega arith))
+
+returns : tie.Need-returns Inv-loop μ-loop Inv-starts μ-starts
+returns c = let a = c .before .before .before .args in sym (none-whole (a .letters .now) (a .p) (a .n) (a .k) (a .wide) (a .received) (a .f) (a .passed) (omega (arith, c .before .size-of .ensures, c .if1 .taken)))
+
+add-last : tie.Need-add-last Inv-loop μ-loop Inv-starts μ-starts
+add-last c = omega (arith, c .if1 .left)
+
+sub-last : tie.Need-sub-last Inv-loop μ-loop Inv-starts μ-starts
+sub-last c = omega (arith, c .if1 .left)
+
+first-at-most-requires : tie.Need-first-at-most-requires Inv-loop μ-loop Inv-starts μ-starts
+first-at-most-requires c κs = omega (arith, c .before .before .before .pre .1 .0 .2)
+
 starts-holds : tie.Need-starts-holds Inv-loop μ-loop Inv-starts μ-starts
-starts-holds c = (omega arith, refl)
+starts-holds c = let a = c .before .before .before .before .args in rw (c .first-at-most .ensures) (turn-begin (a .letters .now) (a .p) (a .n) (a .k) (a .wide) (a .received) (a .f) (a .passed) _ (omega (arith, c .before .before .size-of .ensures, c .before .if1 .left)))
+
+mul-if2 : tie.Need-mul-if2 Inv-loop μ-loop Inv-starts μ-starts
+mul-if2 c = omega arith
 
 moved-by-requires : tie.Need-moved-by-requires Inv-loop μ-loop Inv-starts μ-starts
 moved-by-requires c κs = (omega arith, omega arith, omega arith)
 
 add-tried : tie.Need-add-tried Inv-loop μ-loop Inv-starts μ-starts
-add-tried c = omega arith
+add-tried c = let i = c .before .before .starts .inv in omega (arith, i .few, i .most)
 
 starts-less : tie.Need-starts-less Inv-loop μ-loop Inv-starts μ-starts
-starts-less c = omega arith
+starts-less c = let i = c .before .before .before .starts .inv in omega (arith, i .few, i .least, c .before .before .if2 .left)
 
 starts-again : tie.Need-starts-again Inv-loop μ-loop Inv-starts μ-starts
 starts-again c =
-    let a = c .before .before .before .before .before .before .args in let o = c .before .before .before .starts in let m = c .before .moved-by in
-    (omega arith, o .inv .1 ∙ left-zero (a .letters .now) (a .p) (a .n) (a .k) (a .count) (a .received) (a .f) (o .tried) (m .result) (omega arith) (omega arith) (m .ensures) (c .if2 .taken))
+    let a = c .before .before .before .before .before .before .before .before .args in
+    let o = c .before .before .before .starts in
+    turn-past (o .inv) (omega (arith, c .before .before .if2 .left)) (c .before .before .before .before .before .before .before .before .pre .1 .0 .1) (omega (arith, c .before .moved-by .ensures, c .if3 .taken))
 
+-- a segment that starts there has room
 add-at : tie.Need-add-at Inv-loop μ-loop Inv-starts μ-starts
-add-at c = omega (arith, tried-small (c .before .before .before .before .before .before .args .n) (c .before .before .before .starts .tried) (omega arith))
+add-at c = omega (arith, c .if3 .left, c .before .before .before .starts .inv .room)
 
-add-if3 : tie.Need-add-if3 Inv-loop μ-loop Inv-starts μ-starts
-add-if3 c = omega (arith, tried-small (c .before .before .before .before .before .before .args .n) (c .before .before .before .starts .tried) (omega arith), size-is (c .before .before .before .before .before .before .args .k), width-small (c .before .before .before .before .before .before .args .k) (omega arith))
+shared-slice-read-mark : tie.Need-shared-slice-read-mark Inv-loop μ-loop Inv-starts μ-starts
+shared-slice-read-mark c = omega (arith, c .before .if3 .left, c .before .before .before .before .starts .inv .room, size-is (c .before .before .before .before .before .before .before .before .before .args .k))
+
+add-if4 : tie.Need-add-if4 Inv-loop μ-loop Inv-starts μ-starts
+add-if4 c = omega (arith, c .before .if3 .left, c .before .before .before .before .starts .inv .room)
+
+shared-slice-read-if4 : tie.Need-shared-slice-read-if4 Inv-loop μ-loop Inv-starts μ-starts
+shared-slice-read-if4 c = omega (arith, c .before .before .if3 .left, c .before .before .before .before .before .starts .inv .room, size-is (c .before .before .before .before .before .before .before .before .before .before .args .k))
 
 starts-less-2 : tie.Need-starts-less-2 Inv-loop μ-loop Inv-starts μ-starts
-starts-less-2 c = omega arith
+starts-less-2 c = let i = c .before .before .before .before .before .before .starts .inv in omega (arith, i .few, i .least, c .before .before .before .before .before .if2 .left)
 
 starts-again-2 : tie.Need-starts-again-2 Inv-loop μ-loop Inv-starts μ-starts
 starts-again-2 c =
-    let a = c .before .before .before .before .before .before .before .args in let o = c .before .before .before .before .starts in let m = c .before .before .moved-by in
-    (omega arith, o .inv .1 ∙ left-pass (a .letters .now) (a .p) (a .n) (a .k) (a .count) (a .received) (a .f) (o .tried) (m .result) (omega arith) (omega arith) (m .ensures) (omega arith) (clean-short (a .k) _ (asSymbols (a .letters .now)) (a .letters .now) (length-as (a .letters .now)) (a .p + m .result) (omega (arith, length-as (a .letters .now)))))
+    let a = c .before .before .before .before .before .before .before .before .before .before .before .args in
+    let o = c .before .before .before .before .before .before .starts in
+    let m = c .before .before .before .before .moved-by in
+    turn-unclean (o .inv) (omega (arith, c .before .before .before .before .before .if2 .left)) (c .before .before .before .before .before .before .before .before .before .before .before .pre .1 .0 .1) (m .result) (m .ensures) (λ g. unequal-unclean (a .k) g _ (a .letters .now) (a .p + m .result) (c .if4 .taken))
 
-letter-before-requires : tie.Need-letter-before-requires Inv-loop μ-loop Inv-starts μ-starts
-letter-before-requires c κs = (omega arith, omega (arith, size-is (c .before .before .before .before .before .before .before .args .k), width-small (c .before .before .before .before .before .before .before .args .k) (omega arith)))
+-- the first of its message is another
+add-if5 : tie.Need-add-if5 Inv-loop μ-loop Inv-starts μ-starts
+add-if5 c = omega (arith, c .before .before .before .if3 .left, c .before .before .before .before .before .before .starts .inv .room)
 
-marker-stands-requires : tie.Need-marker-stands-requires Inv-loop μ-loop Inv-starts μ-starts
-marker-stands-requires c κs = let b = c .before .before .before .before .before .before .before .before in let a = b .args in let x = c .letter-before in (rw (x .ensures) (letter-below (a .received) (a .f) (asSymbols (a .letters .now)) (as-below (a .letters .now)) (b .pre .1 .1 .2) (a .p + c .before .before .before .moved-by .result)), omega (arith, size-is (c .before .before .before .before .before .before .before .before .args .k), width-small (c .before .before .before .before .before .before .before .before .args .k) (omega arith)), omega arith)
+shared-slice-read-if5 : tie.Need-shared-slice-read-if5 Inv-loop μ-loop Inv-starts μ-starts
+shared-slice-read-if5 c = omega (arith, c .before .before .before .before .if3 .left, c .before .before .before .before .before .before .before .starts .inv .room, size-is (c .before .before .before .before .before .before .before .before .before .before .before .before .args .k))
 
 starts-less-3 : tie.Need-starts-less-3 Inv-loop μ-loop Inv-starts μ-starts
-starts-less-3 c = omega arith
+starts-less-3 c = let i = c .before .before .before .before .before .before .before .before .starts .inv in omega (arith, i .few, i .least, c .before .before .before .before .before .before .before .if2 .left)
 
 starts-again-3 : tie.Need-starts-again-3 Inv-loop μ-loop Inv-starts μ-starts
 starts-again-3 c =
-    let a = c .before .before .before .before .before .before .before .before .before .before .args in let o = c .before .before .before .before .before .before .before .starts in let m = c .before .before .before .before .before .moved-by in
-    (omega arith, o .inv .1 ∙ left-pass (a .letters .now) (a .p) (a .n) (a .k) (a .count) (a .received) (a .f) (o .tried) (m .result) (omega arith) (omega arith) (m .ensures) (omega arith) (rw (← c .before .before .letter-before .ensures) (unclean (a .k) (c .before .before .letter-before .result) (a .letters .now) (a .p + m .result) (omega (arith, c .before .before .before .before .before .before .before .before .size-of .ensures, c .before .before .before .if3 .left)) (unmarked (a .k) (c .before .before .letter-before .result) (a .letters .now) (a .p + m .result) (c .before .marker-stands .result) (c .before .marker-stands .ensures) (omega arith) (not-true _ (c .if4 .taken))))))
+    let a = c .before .before .before .before .before .before .before .before .before .before .before .before .before .args in
+    let o = c .before .before .before .before .before .before .before .before .starts in
+    let m = c .before .before .before .before .before .before .moved-by in
+    turn-unclean (o .inv) (omega (arith, c .before .before .before .before .before .before .before .if2 .left)) (c .before .before .before .before .before .before .before .before .before .before .before .before .before .pre .1 .0 .1) (m .result) (m .ensures) (λ g. repeated-unclean (a .k) g (a .letters .now) (a .p + m .result) (omega (arith, c .before .before .before .before .before .before .before .before .before .before .before .before .before .pre .1 .1 .0 .0)) (omega (arith, c .before .before .before .before .before .if3 .left, o .inv .room)) (c .if5 .taken))
+
+-- three equal letters are its separator
+starts-less-4 : tie.Need-starts-less-4 Inv-loop μ-loop Inv-starts μ-starts
+starts-less-4 c = let i = c .before .before .before .before .before .before .before .before .before .before .starts .inv in omega (arith, i .few, i .least, c .before .before .before .before .before .before .before .before .before .if2 .left)
+
+starts-again-4 : tie.Need-starts-again-4 Inv-loop μ-loop Inv-starts μ-starts
+starts-again-4 c =
+    let a = c .before .before .before .before .before .before .before .before .before .before .before .before .before .before .before .args in
+    let o = c .before .before .before .before .before .before .before .before .before .before .starts in
+    let m = c .before .before .before .before .before .before .before .before .moved-by in
+    turn-unclean (o .inv) (omega (arith, c .before .before .before .before .before .before .before .before .before .if2 .left)) (c .before .before .before .before .before .before .before .before .before .before .before .before .before .before .before .pre .1 .0 .1) (m .result) (m .ensures) (λ g. unseparated-unclean (a .k) g (a .letters .now) (a .p + m .result) (omega (arith, c .before .before .before .before .before .before .before .if3 .left, o .inv .room)) (sym (c .before .three-equal .ensures) ∙ not-true _ (c .if6 .taken)))
+
+add-three-equal : tie.Need-add-three-equal Inv-loop μ-loop Inv-starts μ-starts
+add-three-equal c = omega (arith, c .before .before .before .before .before .if3 .left, c .before .before .before .before .before .before .before .before .starts .inv .room)
+
+three-equal-requires : tie.Need-three-equal-requires Inv-loop μ-loop Inv-starts μ-starts
+three-equal-requires c κs = omega (arith, c .before .before .before .before .before .if3 .left, c .before .before .before .before .before .before .before .before .starts .inv .room, size-is (c .before .before .before .before .before .before .before .before .before .before .before .before .before .args .k))
+
+-- P itself is no start
+starts-less-5 : tie.Need-starts-less-5 Inv-loop μ-loop Inv-starts μ-starts
+starts-less-5 c = let i = c .before .before .before .before .before .before .before .before .before .before .before .starts .inv in omega (arith, i .few, i .least, c .before .before .before .before .before .before .before .before .before .before .if2 .left)
+
+starts-again-5 : tie.Need-starts-again-5 Inv-loop μ-loop Inv-starts μ-starts
+starts-again-5 c =
+    let a = c .before .before .before .before .before .before .before .before .before .before .before .before .before .before .before .before .args in
+    let o = c .before .before .before .before .before .before .before .before .before .before .before .starts in
+    let m = c .before .before .before .before .before .before .before .before .before .moved-by in
+    turn-zero (o .inv) (omega (arith, c .before .before .before .before .before .before .before .before .before .before .if2 .left)) (c .before .before .before .before .before .before .before .before .before .before .before .before .before .before .before .before .pre .1 .0 .1) (m .result) (m .ensures) (c .if7 .taken)
+
+letter-before-requires : tie.Need-letter-before-requires Inv-loop μ-loop Inv-starts μ-starts
+letter-before-requires c κs = (omega (arith, c .if7 .left), omega (arith, c .before .before .before .before .before .before .before .before .if3 .left, c .before .before .before .before .before .before .before .before .before .before .before .starts .inv .room, size-is (c .before .before .before .before .before .before .before .before .before .before .before .before .before .before .before .before .args .k)))
+
+marker-stands-requires : tie.Need-marker-stands-requires Inv-loop μ-loop Inv-starts μ-starts
+marker-stands-requires c κs =
+    let a = c .before .before .before .before .before .before .before .before .before .before .before .before .before .before .before .before .before .args in
+    let x = c .letter-before in
+    (rw (x .ensures) (letter-below (a .received) (a .f) (asSymbols (a .letters .now)) (as-below (a .letters .now)) (c .before .before .before .before .before .before .before .before .before .before .before .before .before .before .before .before .before .pre .1 .1 .1) (a .p + c .before .before .before .before .before .before .before .before .before .before .moved-by .result)), omega (arith, c .before .before .before .before .before .before .before .before .before .if3 .left, c .before .before .before .before .before .before .before .before .before .before .before .before .starts .inv .room, size-is (a .k), c .before .before .before .before .before .before .before .before .before .before .before .before .before .before .before .before .before .pre .1 .1 .0 .0), omega (arith, c .before .before .before .before .before .before .before .before .before .if3 .left, c .before .before .before .before .before .before .before .before .before .before .before .before .starts .inv .room))
+
+starts-less-6 : tie.Need-starts-less-6 Inv-loop μ-loop Inv-starts μ-starts
+starts-less-6 c = let i = c .before .before .before .before .before .before .before .before .before .before .before .before .before .before .starts .inv in omega (arith, i .few, i .least, c .before .before .before .before .before .before .before .before .before .before .before .before .before .if2 .left)
+
+starts-again-6 : tie.Need-starts-again-6 Inv-loop μ-loop Inv-starts μ-starts
+starts-again-6 c =
+    let a = c .before .before .before .before .before .before .before .before .before .before .before .before .before .before .before .before .before .before .before .args in
+    let o = c .before .before .before .before .before .before .before .before .before .before .before .before .before .before .starts in
+    let m = c .before .before .before .before .before .before .before .before .before .before .before .before .moved-by in
+    let x = c .before .before .letter-before in
+    let y = c .before .marker-stands in
+    turn-pass (o .inv) (omega (arith, c .before .before .before .before .before .before .before .before .before .before .before .before .before .if2 .left)) (c .before .before .before .before .before .before .before .before .before .before .before .before .before .before .before .before .before .before .before .pre .1 .0 .1) (m .result) (m .ensures) (omega (arith, c .before .before .before .if7 .left)) (rw (← x .ensures) (unclean (a .k) (x .result) (a .letters .now) (a .p + m .result) (omega (arith, c .before .before .before .before .before .before .before .before .before .before .before .if3 .left, o .inv .room)) (unmarked (a .k) (x .result) (a .letters .now) (a .p + m .result) (y .result) (y .ensures) (c .before .before .before .before .before .before .before .before .before .before .before .before .before .before .before .before .before .before .before .pre .1 .1 .0 .0) (not-true _ (c .if8 .taken)))))
 
 add-behind : tie.Need-add-behind Inv-loop μ-loop Inv-starts μ-starts
 add-behind c = omega arith
 
 add-behind-2 : tie.Need-add-behind-2 Inv-loop μ-loop Inv-starts μ-starts
-add-behind-2 c = omega (arith, tried-small (c .before .before .before .before .before .before .before .before .before .before .args .n) (c .before .before .before .before .before .before .before .starts .tried) (omega arith))
+add-behind-2 c = omega (arith, c .before .before .before .before .before .if3 .left, c .before .before .before .before .before .before .before .before .starts .inv .room)
 
 -- the message of a segment whose marker stands
 add-has-unknown : tie.Need-add-has-unknown Inv-loop μ-loop Inv-starts μ-starts
-add-has-unknown c = omega (arith, tried-small (c .before .before .before .before .before .before .before .before .before .before .args .n) (c .before .before .before .before .before .before .before .starts .tried) (omega arith))
+add-has-unknown c = omega (arith, c .before .before .before .before .before .before .before .before .before .before .before .if3 .left, c .before .before .before .before .before .before .before .before .before .before .before .before .before .before .starts .inv .room)
+
+sub-has-unknown : tie.Need-sub-has-unknown Inv-loop μ-loop Inv-starts μ-starts
+sub-has-unknown c = omega arith
+
+part-has-unknown-start : tie.Need-part-has-unknown-start Inv-loop μ-loop Inv-starts μ-starts
+part-has-unknown-start c = omega arith
 
 part-has-unknown-end : tie.Need-part-has-unknown-end Inv-loop μ-loop Inv-starts μ-starts
-part-has-unknown-end c = omega (arith, size-is (c .before .before .before .before .before .before .before .before .before .before .args .k), width-small (c .before .before .before .before .before .before .before .before .before .before .args .k) (omega arith))
+part-has-unknown-end c = omega (arith, c .before .before .before .before .before .before .before .before .before .before .before .if3 .left, c .before .before .before .before .before .before .before .before .before .before .before .before .before .before .starts .inv .room, size-is (c .before .before .before .before .before .before .before .before .before .before .before .before .before .before .before .before .before .before .before .args .k))
 
 -- one with an N is passed over
-starts-again-4 : tie.Need-starts-again-4 Inv-loop μ-loop Inv-starts μ-starts
-starts-again-4 c =
-    let a = c .before .before .before .before .before .before .before .before .before .before .before .before .before .args in
-    let o = c .before .before .before .before .before .before .before .before .before .before .starts in
-    let m = c .before .before .before .before .before .before .before .before .moved-by in
+starts-less-7 : tie.Need-starts-less-7 Inv-loop μ-loop Inv-starts μ-starts
+starts-less-7 c = let i = c .before .before .before .before .before .before .before .before .before .before .before .before .before .before .before .before .before .starts .inv in omega (arith, i .few, i .least, c .before .before .before .before .before .before .before .before .before .before .before .before .before .before .before .before .if2 .left)
+
+starts-again-7 : tie.Need-starts-again-7 Inv-loop μ-loop Inv-starts μ-starts
+starts-again-7 c =
+    let a = c .before .before .before .before .before .before .before .before .before .before .before .before .before .before .before .before .before .before .before .before .before .before .args in
+    let o = c .before .before .before .before .before .before .before .before .before .before .before .before .before .before .before .before .before .starts in
+    let m = c .before .before .before .before .before .before .before .before .before .before .before .before .before .before .before .moved-by in
     let l = a .letters .now in
     let at = a .p + m .result in
     let n : at + (2 + a .k) - (at + 2) ≡ a .k = omega arith in
-    let e = sym (c .before .has-unknown .ensures) ∙ c .if5 .taken in
+    let e = sym (c .before .has-unknown .ensures) ∙ c .if9 .taken in
     let u : hasUnknown (take (a .k) (drop 2 (drop at l))) ≡ true = rw (drop-drop 2 at l) (rw n at e) in
-    (omega arith, o .inv .1 ∙ left-pass l (a .p) (a .n) (a .k) (a .count) (a .received) (a .f) (o .tried) (m .result) (omega arith) (omega arith) (m .ensures) (omega arith) (clean-unknown (a .k) _ l at (omega (arith, c .before .before .before .before .before .before .before .before .before .before .before .size-of .ensures, c .before .before .before .before .before .before .if3 .left)) u))
+    turn-pass (o .inv) (omega (arith, c .before .before .before .before .before .before .before .before .before .before .before .before .before .before .before .before .if2 .left)) (c .before .before .before .before .before .before .before .before .before .before .before .before .before .before .before .before .before .before .before .before .before .before .pre .1 .0 .1) (m .result) (m .ensures) (omega (arith, c .before .before .before .before .before .before .if7 .left)) (clean-unknown (a .k) _ l at (omega (arith, c .before .before .before .before .before .before .before .before .before .before .before .before .before .before .if3 .left, o .inv .room)) u)
 
 add-tail-of : tie.Need-add-tail-of Inv-loop μ-loop Inv-starts μ-starts
-add-tail-of c = omega (arith, tried-small (c .before .before .before .before .before .before .before .before .before .before .before .before .before .args .n) (c .before .before .before .before .before .before .before .before .before .before .starts .tried) (omega arith))
+add-tail-of c = omega (arith, c .before .before .before .before .before .before .before .before .before .before .before .before .before .before .if3 .left, c .before .before .before .before .before .before .before .before .before .before .before .before .before .before .before .before .before .starts .inv .room)
 
 sub-tail-of : tie.Need-sub-tail-of Inv-loop μ-loop Inv-starts μ-starts
 sub-tail-of c = omega arith
@@ -113,28 +202,29 @@ part-tail-of-start : tie.Need-part-tail-of-start Inv-loop μ-loop Inv-starts μ-
 part-tail-of-start c = omega arith
 
 part-tail-of-end : tie.Need-part-tail-of-end Inv-loop μ-loop Inv-starts μ-starts
-part-tail-of-end c = omega (arith, size-is (c .before .before .before .before .before .before .before .before .before .before .before .before .before .args .k), width-small (c .before .before .before .before .before .before .before .before .before .before .before .before .before .args .k) (omega arith))
+part-tail-of-end c = omega (arith, c .before .before .before .before .before .before .before .before .before .before .before .before .before .before .if3 .left, c .before .before .before .before .before .before .before .before .before .before .before .before .before .before .before .before .before .starts .inv .room, size-is (c .before .before .before .before .before .before .before .before .before .before .before .before .before .before .before .before .before .before .before .before .before .before .args .k))
 
 tail-of-requires : tie.Need-tail-of-requires Inv-loop μ-loop Inv-starts μ-starts
 tail-of-requires c κs =
-    let a = c .before .before .before .before .before .before .before .before .before .before .before .before .before .before .args in let o = c .before .before .before .before .before .before .before .before .before .before .before .starts in let m = c .before .before .before .before .before .before .before .before .before .moved-by in
-    let l = part-long (a .letters .now) (a .p + m .result) (a .k) (omega (arith, size-is (a .k))) in
-    (omega arith, omega arith)
+    let a = c .before .before .before .before .before .before .before .before .before .before .before .before .before .before .before .before .before .before .before .before .before .before .before .args in
+    let l = part-long (a .letters .now) (a .p + c .before .before .before .before .before .before .before .before .before .before .before .before .before .before .before .before .moved-by .result) (a .k) (omega (arith, c .before .before .before .before .before .before .before .before .before .before .before .before .before .before .before .if3 .left, c .before .before .before .before .before .before .before .before .before .before .before .before .before .before .before .before .before .before .starts .inv .room, size-is (a .k))) in
+    (omega (arith, l, c .before .before .before .before .before .before .before .before .before .before .before .before .before .before .before .before .before .before .before .before .before .before .before .pre .1 .1 .0 .0), omega (arith, l, c .before .before .before .before .before .before .before .before .before .before .before .before .before .before .before .before .before .before .before .before .before .before .before .pre .1 .1 .0 .1))
 
 loop-holds : tie.Need-loop-holds Inv-loop μ-loop Inv-starts μ-starts
 loop-holds c =
-    let a = c .before .before .before .before .before .before .before .before .before .before .before .before .before .before .before .args in let o = c .before .before .before .before .before .before .before .before .before .before .before .before .starts in let m = c .before .before .before .before .before .before .before .before .before .before .moved-by in
+    let a = c .before .before .before .before .before .before .before .before .before .before .before .before .before .before .before .before .before .before .before .before .before .before .before .before .args in
     let e = c .tail-of in
     let s = a .letters .now in
-    let at = a .p + m .result in
-    let z = c .before .before .before .before .before .before .before .before .before .before .before .before .before .size-of .ensures in
-    let g = c .before .before .before .before .before .before .before .before .if3 .left in
-    let room : at + (2 + a .k) ≤ length s = omega (arith, z, g, size-is (a .k)) in
+    let at = a .p + c .before .before .before .before .before .before .before .before .before .before .before .before .before .before .before .before .before .moved-by .result in
+    let r = c .before .before .before .before .before .before .before .before .before .before .before .before .before .before .before .before .before .before .before .starts .inv .room in
+    let g = c .before .before .before .before .before .before .before .before .before .before .before .before .before .before .before .before .if3 .left in
+    let room : at + (2 + a .k) ≤ length s = omega (arith, r, g, size-is (a .k)) in
     let w = part-width s at (a .k) room (e .result) (e .ensures) in
-    let l = width-small (a .k) (c .before .before .before .before .before .before .before .before .before .before .before .before .before .before .before .pre .1 .1 .0 .1) in
+    let l = width-small (a .k) (c .before .before .before .before .before .before .before .before .before .before .before .before .before .before .before .before .before .before .before .before .before .before .before .before .pre .1 .1 .0 .1) in
     let x = c .before .before .before .before .before .before .before .letter-before in
-    let d = marked (a .k) (x .result) s at (c .before .before .before .before .before .before .marker-stands .result) (c .before .before .before .before .before .before .marker-stands .ensures) (c .before .before .before .before .before .before .before .before .before .before .before .before .before .before .before .pre .1 .1 .0 .0) (not-false _ (c .before .before .before .before .before .if4 .left)) (e .result) (part-tail s at (a .k) room (e .result) (e .ensures)) in
-    compared-begin s (e .result) (at + (2 + a .k)) _ (omega (arith, w, l)) (omega (arith, z, g, w, size-is (a .k))) (rw (← x .ensures) d)
+    let y = c .before .before .before .before .before .before .marker-stands in
+    let d = marked (a .k) (x .result) s at (y .result) (y .ensures) (c .before .before .before .before .before .before .before .before .before .before .before .before .before .before .before .before .before .before .before .before .before .before .before .before .pre .1 .1 .0 .0) (not-false _ (c .before .before .before .before .before .if8 .left)) (e .result) (part-tail s at (a .k) room (e .result) (e .ensures)) in
+    compared-begin s (e .result) (at + (2 + a .k)) _ (omega (arith, w, l)) (omega (arith, r, g, w, size-is (a .k))) (rw (← x .ensures) d)
 
 add-loop : tie.Need-add-loop Inv-loop μ-loop Inv-starts μ-starts
 add-loop c = let i = c .loop .inv in omega (arith, i .fits)
@@ -142,21 +232,25 @@ add-loop c = let i = c .loop .inv in omega (arith, i .fits)
 symbol-in-requires : tie.Need-symbol-in-requires Inv-loop μ-loop Inv-starts μ-starts
 symbol-in-requires c κs = let i = c .before .loop .inv in (omega arith, i .fits)
 
-add-if6 : tie.Need-add-if6 Inv-loop μ-loop Inv-starts μ-starts
-add-if6 c = let i = c .before .before .loop .inv in omega (arith, i .within)
+add-if10 : tie.Need-add-if10 Inv-loop μ-loop Inv-starts μ-starts
+add-if10 c = let i = c .before .before .loop .inv in omega (arith, i .within)
 
-shared-slice-read-if6 : tie.Need-shared-slice-read-if6 Inv-loop μ-loop Inv-starts μ-starts
-shared-slice-read-if6 c = let i = c .before .before .before .loop .inv in omega (arith, i .within)
+shared-slice-read-if10 : tie.Need-shared-slice-read-if10 Inv-loop μ-loop Inv-starts μ-starts
+shared-slice-read-if10 c = let i = c .before .before .before .loop .inv in omega (arith, i .within)
 
-starts-less-5 : tie.Need-starts-less-5 Inv-loop μ-loop Inv-starts μ-starts
-starts-less-5 c = omega arith
+starts-less-8 : tie.Need-starts-less-8 Inv-loop μ-loop Inv-starts μ-starts
+starts-less-8 c = let i = c .before .before .before .before .before .before .before .before .before .before .before .before .before .before .before .before .before .before .before .before .before .before .before .before .starts .inv in omega (arith, i .few, i .least, c .before .before .before .before .before .before .before .before .before .before .before .before .before .before .before .before .before .before .before .before .before .before .before .if2 .left)
 
-starts-again-5 : tie.Need-starts-again-5 Inv-loop μ-loop Inv-starts μ-starts
-starts-again-5 c =
-    let a = c .before .before .before .before .before .before .before .before .before .before .before .before .before .before .before .before .before .before .before .before .args in let o = c .before .before .before .before .before .before .before .before .before .before .before .before .before .before .before .before .before .starts in let m = c .before .before .before .before .before .before .before .before .before .before .before .before .before .before .before .moved-by in
+starts-again-8 : tie.Need-starts-again-8 Inv-loop μ-loop Inv-starts μ-starts
+starts-again-8 c =
+    let a = c .before .before .before .before .before .before .before .before .before .before .before .before .before .before .before .before .before .before .before .before .before .before .before .before .before .before .before .before .before .args in
+    let o = c .before .before .before .before .before .before .before .before .before .before .before .before .before .before .before .before .before .before .before .before .before .before .before .before .starts in
+    let m = c .before .before .before .before .before .before .before .before .before .before .before .before .before .before .before .before .before .before .before .before .before .before .moved-by in
+    let s = a .letters .now in
+    let at = a .p + m .result in
     let l = c .before .before .before .before .loop in
     let x = c .before .before .symbol-in in
-    (omega arith, o .inv .1 ∙ left-pass (a .letters .now) (a .p) (a .n) (a .k) (a .count) (a .received) (a .f) (o .tried) (m .result) (omega arith) (c .before .before .before .before .before .before .before .before .before .before .before .before .before .before .before .before .before .before .before .before .pre .1 .1 .1) (m .ensures) (omega arith) (unclean (a .k) _ (a .letters .now) (a .p + m .result) (omega (arith, c .before .before .before .before .before .before .before .before .before .before .before .before .before .before .before .before .before .before .size-of .ensures, c .before .before .before .before .before .before .before .before .before .before .before .before .before .if3 .left)) (compared-stop (a .letters .now) (c .before .before .before .before .before .tail-of .result) (a .p + m .result + (2 + a .k)) (clean (a .k) (letterBefore (a .received) (a .f) (asSymbols (a .letters .now)) (a .p + m .result)) (drop (a .p + m .result) (a .letters .now)) (drop (a .p + m .result) (a .letters .now))) (l .j) (l .inv) (c .before .before .before .loop-test .taken) (x .result) (x .ensures) (c .if6 .taken))))
+    turn-pass (o .inv) (omega (arith, c .before .before .before .before .before .before .before .before .before .before .before .before .before .before .before .before .before .before .before .before .before .before .before .if2 .left)) (c .before .before .before .before .before .before .before .before .before .before .before .before .before .before .before .before .before .before .before .before .before .before .before .before .before .before .before .before .before .pre .1 .0 .1) (m .result) (m .ensures) (omega (arith, c .before .before .before .before .before .before .before .before .before .before .before .before .before .if7 .left)) (unclean (a .k) _ s at (omega (arith, c .before .before .before .before .before .before .before .before .before .before .before .before .before .before .before .before .before .before .before .before .before .if3 .left, o .inv .room)) (compared-stop s (c .before .before .before .before .before .tail-of .result) (at + (2 + a .k)) _ (l .j) (l .inv) (c .before .before .before .loop-test .taken) (x .result) (x .ensures) (c .if10 .taken)))
 
 add-j : tie.Need-add-j Inv-loop μ-loop Inv-starts μ-starts
 add-j c = let i = c .before .before .before .before .loop .inv in omega (arith, i .fits)
@@ -166,25 +260,28 @@ loop-less c = omega arith
 
 loop-again : tie.Need-loop-again Inv-loop μ-loop Inv-starts μ-starts
 loop-again c =
-    let a = c .before .before .before .before .before .before .before .before .before .before .before .before .before .before .before .before .before .before .before .before .args in let o = c .before .before .before .before .before .before .before .before .before .before .before .before .before .before .before .before .before .starts in let m = c .before .before .before .before .before .before .before .before .before .before .before .before .before .before .before .moved-by in
+    let a = c .before .before .before .before .before .before .before .before .before .before .before .before .before .before .before .before .before .before .before .before .before .before .before .before .before .before .before .before .before .args in
     let l = c .before .before .before .before .loop in
     let x = c .before .before .symbol-in in
-    compared-turn (a .letters .now) (c .before .before .before .before .before .tail-of .result) (a .p + m .result + (2 + a .k)) (clean (a .k) (letterBefore (a .received) (a .f) (asSymbols (a .letters .now)) (a .p + m .result)) (drop (a .p + m .result) (a .letters .now)) (drop (a .p + m .result) (a .letters .now))) (l .j) (l .inv) (c .before .before .before .loop-test .taken) (x .result) (x .ensures) (c .if6 .left)
-
-returns : tie.Need-returns Inv-loop μ-loop Inv-starts μ-starts
-returns c =
-    let a = c .before .before .before .before .args in let o = c .before .starts in
-    sym (sym (left-whole (a .letters .now) (a .p) (a .n) (a .k) (a .count) (a .received) (a .f)) ∙ o .inv .1 ∙ left-end (a .letters .now) (a .p) (a .n) (a .k) (a .count) (a .received) (a .f) (o .tried) (c .if1 .taken) (omega arith))
+    compared-turn (a .letters .now) (c .before .before .before .before .before .tail-of .result) (a .p + c .before .before .before .before .before .before .before .before .before .before .before .before .before .before .before .before .before .before .before .before .before .before .moved-by .result + (2 + a .k)) _ (l .j) (l .inv) (c .before .before .before .loop-test .taken) (x .result) (x .ensures) (c .if10 .left)
 
 returns-2 : tie.Need-returns-2 Inv-loop μ-loop Inv-starts μ-starts
 returns-2 c =
-    let a = c .before .before .before .before .before .before .before .before .before .before .before .before .before .before .before .before .before .args in let o = c .before .before .before .before .before .before .before .before .before .before .before .before .before .before .starts in let m = c .before .before .before .before .before .before .before .before .before .before .before .before .moved-by in
+    sym (turn-end (c .before .starts .inv) (c .if2 .taken))
+
+returns-3 : tie.Need-returns-3 Inv-loop μ-loop Inv-starts μ-starts
+returns-3 c =
+    let a = c .before .before .before .before .before .before .before .before .before .before .before .before .before .before .before .before .before .before .before .before .before .before .before .before .before .before .args in
+    let o = c .before .before .before .before .before .before .before .before .before .before .before .before .before .before .before .before .before .before .before .before .before .starts in
+    let m = c .before .before .before .before .before .before .before .before .before .before .before .before .before .before .before .before .before .before .before .moved-by in
     let l = c .before .loop in
+    let s = a .letters .now in
     let at = a .p + m .result in
     let n : at + (2 + a .k) - (at + 2) ≡ a .k = omega arith in
-    let e = sym (c .before .before .before .before .before .has-unknown .ensures) ∙ c .before .before .before .before .if5 .left in
-    let known : hasUnknown (take (a .k) (drop 2 (drop at (a .letters .now)))) ≡ false = rw (drop-drop 2 at (a .letters .now)) (rw n at e) in
-    ap (Clean (a .p + m .result)) (c .before .before .before .before .before .before .before .before .before .letter-before .ensures) ∙ sym (sym (left-whole (a .letters .now) (a .p) (a .n) (a .k) (a .count) (a .received) (a .f)) ∙ o .inv .1 ∙ left-found (a .letters .now) (a .p) (a .n) (a .k) (a .count) (a .received) (a .f) (o .tried) (m .result) (omega arith) (omega arith) (m .ensures) (omega arith) (clean-known (a .k) _ (a .letters .now) (a .p + m .result) known ∙ compared-end (a .letters .now) (c .before .before .tail-of .result) (a .p + m .result + (2 + a .k)) (clean (a .k) (letterBefore (a .received) (a .f) (asSymbols (a .letters .now)) (a .p + m .result)) (drop (a .p + m .result) (a .letters .now)) (drop (a .p + m .result) (a .letters .now))) (l .j) (l .inv) (omega arith)))
+    let e = sym (c .before .before .before .before .before .has-unknown .ensures) ∙ c .before .before .before .before .if9 .left in
+    let known : hasUnknown (take (a .k) (drop 2 (drop at s))) ≡ false = rw (drop-drop 2 at s) (rw n at e) in
+    let stands = clean-known (a .k) _ s at known ∙ compared-end s (c .before .before .tail-of .result) (at + (2 + a .k)) _ (l .j) (l .inv) (omega arith) in
+    ap (λ (x : _). Clean at x (a .passed)) (c .before .before .before .before .before .before .before .before .before .letter-before .ensures) ∙ sym (turn-found (o .inv) (omega (arith, c .before .before .before .before .before .before .before .before .before .before .before .before .before .before .before .before .before .before .before .before .if2 .left)) (c .before .before .before .before .before .before .before .before .before .before .before .before .before .before .before .before .before .before .before .before .before .before .before .before .before .before .pre .1 .0 .1) (m .result) (m .ensures) (omega (arith, c .before .before .before .before .before .before .before .before .before .before .if7 .left)) stands)
 
 pub find-clean-spec : {M : Type 1} → statement M
 find-clean-spec =
@@ -195,28 +292,46 @@ find-clean-spec =
     Inv-starts
     μ-starts
     size-of-requires
+    add-if1
+    returns
+    add-last
+    sub-last
+    first-at-most-requires
     starts-holds
+    mul-if2
     moved-by-requires
     add-tried
     starts-less
     starts-again
     add-at
-    add-if3
+    shared-slice-read-mark
+    add-if4
+    shared-slice-read-if4
     starts-less-2
     starts-again-2
-    letter-before-requires
-    marker-stands-requires
+    add-if5
+    shared-slice-read-if5
     starts-less-3
     starts-again-3
     add-behind
     add-behind-2
+    add-three-equal
+    three-equal-requires
+    starts-less-4
+    starts-again-4
+    starts-less-5
+    starts-again-5
+    letter-before-requires
+    marker-stands-requires
+    starts-less-6
+    starts-again-6
     add-has-unknown
-    (λ c. search needs)
-    (λ c. search needs)
+    sub-has-unknown
+    part-has-unknown-start
     part-has-unknown-end
     (λ c κs. search needs)
-    (λ c. omega arith)
-    starts-again-4
+    starts-less-7
+    starts-again-7
     add-tail-of
     sub-tail-of
     part-tail-of-start
@@ -225,12 +340,12 @@ find-clean-spec =
     loop-holds
     add-loop
     symbol-in-requires
-    add-if6
-    shared-slice-read-if6
-    starts-less-5
-    starts-again-5
+    add-if10
+    shared-slice-read-if10
+    starts-less-8
+    starts-again-8
     add-j
     loop-less
     loop-again
-    returns
-    returns-2)
+    returns-2
+    returns-3)

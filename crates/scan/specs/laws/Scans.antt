@@ -1,27 +1,26 @@
 -- Laws of the search for a clean segment: where there is no room for a clean segment, and which searches of the reading steps it is.
 use mathlib.Core.Path.{_≡_, refl, sym, ap, _∙_}
 use mathlib.Core.Bool.{Bool, true, false, cond, not, _&&_, true≢false}
-use mathlib.Core.List.{List, [], _∷_}
-use mathlib.Core.Option.{some, none}
+use mathlib.Core.List.{List, [], _∷_, _++_, map, append-assoc}
+use mathlib.Core.Option.{Option, some, none}
 use Prim.Native.Nat.{ℕ, zero, suc, _+_, _-_, _≤_, _<_}
 use native.Mathlib.Decide.{decLe}
 use native.Mathlib.Nat.{lt-of-not-le}
 use native.Mathlib.Omega.{arith}
 use borrow.Author.Tests.{lt-ltb}
 use lib.Bits.{bitAnd, and-mask}
-use lib.ListN.{length, getD, take, drop, length-take, length-drop}
-use lib.Seq.{take-all, take-take, getD-drop}
+use lib.ListN.{length, getD, take, drop, length-append, length-take, length-drop}
+use lib.Seq.{take-take, getD-drop, drop-drop}
 use Rattle.code.specs.Symbols.{Below, asSymbols, hasUnknown}
 use Rattle.code.specs.laws.Letters.{length-as, as-take, as-drop, as-known, has-take, has-drop}
 use Rattle.code.specs.laws.CleanLetters.{clean-letters, clean-symbols}
-use Rattle.code.specs.Segment.{segment, size}
-use Rattle.code.specs.laws.Segment.{length-segment}
-use Rattle.code.specs.Reading.{clean, moved, firstShift, level, early, late, around}
-use Rattle.code.specs.laws.Reading.{and-false}
-use Rattle.code.specs.Strands.{above, pairs, firstStart, scan}
-use Rattle.places.specs.laws.Offsets.{scan-length}
+use Rattle.code.specs.Segment.{check, syndromeOf, separator, marker, block, segment, size}
+use Rattle.code.specs.laws.Segment.{length-segment, marker-apart}
+use Rattle.code.specs.Reading.{isPrefix, threeEqual, clean, moved, firstShift, level, early, late, around}
+use Rattle.code.specs.laws.Reading.{and-false, prefix-at, prefix-split, drop-off, three-yes}
+use Rattle.code.specs.Strands.{above, pairs, window, Try, tryAt, firstStanding}
 use Rattle.places.proofs.TestsAtPlaces.{block-past}
-use Rattle.scan.specs.Scans.{firstClean, letterBefore}
+use Rattle.scan.specs.Scans.{firstClean, letterBefore, tryFrom}
 
 -- The clean test
 
@@ -93,6 +92,80 @@ module _ (k f : ℕ) (letters : List ℕ) (at : ℕ) where
         go true q = clean-unknown q
         go false q = clean-known q ∙ e
 
+-- the two letters of a marker are equal
+pub unequal-unclean : (k f : ℕ) (s letters : List ℕ) (at : ℕ) → (getD letters at 0 ≡ getD letters (at + 1) 0 → ⊥) → clean k f s (drop at letters) ≡ false
+unfolding clean segment
+unequal-unclean k f s letters at h = go (clean k f s (drop at letters)) refl
+  where
+    m : ℕ
+    m = marker f (take k (drop 2 s))
+
+    go : (b : Bool) → clean k f s (drop at letters) ≡ b → b ≡ false
+    go false q = refl
+    go true q =
+        let x = prefix-at (segment true f (take k (drop 2 s))) (drop at letters) 0 q (omega arith) in
+        let y = prefix-at (segment true f (take k (drop 2 s))) (drop at letters) 1 q (omega arith) in
+        let z : at + 0 ≡ at = omega arith in
+        absurd (h (ap (λ (i : ℕ). getD letters i 0) (sym z) ∙ sym (getD-drop at letters 0 0) ∙ x ∙ sym y ∙ getD-drop at letters 1 0))
+
+-- the first of its message is another
+pub repeated-unclean : (k f : ℕ) (letters : List ℕ) (at : ℕ) → 1 ≤ k → at + size true k ≤ length letters → getD letters at 0 ≡ getD letters (at + 2) 0 → clean k f (drop at (asSymbols letters)) (drop at letters) ≡ false
+unfolding clean segment block size
+repeated-unclean k f letters at some-symbol room h = go (isPrefix (segment true f m) (drop at letters)) refl
+  where
+    m : List ℕ
+    m = take k (drop 2 (drop at (asSymbols letters)))
+
+    long : length m ≡ k
+    long = simp (length-take, length-drop) (omega (arith, length-as letters))
+
+    front : (u v : List ℕ) → 1 ≤ length u → getD (u ++ v) 0 0 ≡ getD u 0 0
+    front [] v l = absurd (omega arith)
+    front (x ∷ u) v l = refl
+
+    go : (b : Bool) → isPrefix (segment true f m) (drop at letters) ≡ b → b ≡ false
+    go false q = refl
+    go true q =
+        let w = segment true f m in
+        let z : at + 0 ≡ at = omega arith in
+        let x : getD letters at 0 ≡ marker f m = ap (λ (i : ℕ). getD letters i 0) (sym z) ∙ (sym (getD-drop at letters 0 0) ∙ prefix-at w (drop at letters) 0 q (omega arith)) in
+        let y : getD letters (at + 2) 0 ≡ getD m 0 0 = sym (getD-drop at letters 2 0) ∙ (prefix-at w (drop at letters) 2 q (simp length-append (omega (arith, long))) ∙ front m _ (omega (arith, long))) in
+        absurd (marker-apart f m .second (sym x ∙ (h ∙ y)))
+
+-- three equal letters are its separator
+pub unseparated-unclean : (k f : ℕ) (letters : List ℕ) (at : ℕ) → at + size true k ≤ length letters → threeEqual (drop (at + (2 + k) + 1) letters) ≡ false → clean k f (drop at (asSymbols letters)) (drop at letters) ≡ false
+unfolding clean segment block size
+unseparated-unclean k f letters at room h = go (isPrefix (segment true f m) (drop at letters)) refl
+  where
+    m : List ℕ
+    m = take k (drop 2 (drop at (asSymbols letters)))
+
+    front : List ℕ
+    front = marker f m ∷ marker f m ∷ (m ++ check m ∷ [])
+
+    long : length front ≡ 3 + k
+    long = simp (length-append, length-take, length-drop) (omega (arith, length-as letters))
+
+    -- the letters from the separator on
+    from : drop (3 + k) (drop at letters) ≡ drop (at + (2 + k) + 1) letters
+    from = let n : at + (2 + k) + 1 ≡ at + (3 + k) = omega arith in rw n (drop-drop (3 + k) at letters)
+
+    -- what stands before the separator, and what follows
+    parts : (rest : List ℕ) → segment true f m ++ rest ≡ front ++ (separator m ∷ separator m ∷ separator m ∷ (syndromeOf m ++ rest))
+    parts rest =
+        let tail = separator m ∷ separator m ∷ separator m ∷ syndromeOf m in
+        let e : segment true f m ≡ front ++ tail = ap (λ (l : List ℕ). marker f m ∷ marker f m ∷ l) (sym (append-assoc m (check m ∷ []) tail)) in
+        ap (λ (l : List ℕ). l ++ rest) e ∙ append-assoc front tail rest
+
+    go : (b : Bool) → isPrefix (segment true f m) (drop at letters) ≡ b → b ≡ false
+    go false q = refl
+    go true q =
+        let w = segment true f m in
+        let rest = drop (length w) (drop at letters) in
+        let split = prefix-split w (drop at letters) q ∙ parts rest in
+        let seen : drop (3 + k) (drop at letters) ≡ separator m ∷ separator m ∷ separator m ∷ (syndromeOf m ++ rest) = ap (drop (3 + k)) split ∙ drop-off (3 + k) front _ 0 (omega (arith, long)) in
+        absurd (true≢false (sym (three-yes (separator m) (syndromeOf m ++ rest)) ∙ (ap threeEqual (sym seen ∙ from) ∙ h)))
+
 -- The symbol before a start
 
 -- the symbol of a letter
@@ -120,26 +193,27 @@ module _ (received : Bool) (f : ℕ) (s : List ℕ) where
 
 -- Which searches it is
 
--- with the received symbol, that of step 10
+-- with the received symbol, a window of step 10
 
-pub first-start : (k f : ℕ) (s letters os : List ℕ) → firstClean k (letterBefore true f s) s letters os ≡ firstStart k s letters os
-unfolding firstClean firstStart letterBefore
-first-start k f s letters [] = refl
-first-start k f s letters (o ∷ os) = rw (first-start k f s letters os)
+pub window-first : (passed k f : ℕ) (s letters os : List ℕ) (ts : List Try) → firstStanding s letters (map (tryAt passed k) os ++ ts) ≡ tryFrom passed k (firstClean k (letterBefore true f s) s letters os) (firstStanding s letters ts)
+unfolding firstClean firstStanding letterBefore
+window-first passed k f s letters [] ts = refl
+window-first passed k f s letters (o ∷ os) ts = go (clean k (getD s (o - 1) 0) (drop o s) (drop o letters)) (window-first passed k f s letters os ts)
+  where
+    rest : Option ℕ
+    rest = firstClean k (letterBefore true f s) s letters os
 
-pub scan-first : (n k f : ℕ) (ks s letters : List ℕ) → scan n (k ∷ ks) s letters ≡ firstClean k (letterBefore true f s) s letters (above (take 17 (n ∷ pairs n 1 8)))
-unfolding scan
-scan-first n k f ks s letters =
-    let l = n ∷ pairs n 1 8 in
-    sym (first-start k f s letters (above l)) ∙ ap (λ (os : List ℕ). firstClean k (letterBefore true f s) s letters (above os)) (sym (take-all 17 l (omega (arith, scan-length n))))
+    go : (b : Bool) → firstStanding s letters (map (tryAt passed k) os ++ ts) ≡ tryFrom passed k rest (firstStanding s letters ts) → cond b (some (tryAt passed k o)) (firstStanding s letters (map (tryAt passed k) os ++ ts)) ≡ tryFrom passed k (cond b (some o) rest) (firstStanding s letters ts)
+    go true h = refl
+    go false h = h
 
--- with the given symbol and three starts, that of step 8
+-- with the given symbol and one start to each side, that of step 8
 
-three-starts : (n : ℕ) → 1 < n → above (take 3 (n ∷ pairs n 1 8)) ≡ n ∷ (n - 1) ∷ (n + 1) ∷ []
+three-starts : (n : ℕ) → 1 < n → window n 1 ≡ n ∷ (n - 1) ∷ (n + 1) ∷ []
 unfolding above pairs
 three-starts n h = rw (lt-ltb 0 n (omega arith), lt-ltb 0 (n - 1) (omega arith), lt-ltb 0 (n + 1) (omega arith))
 
-pub around-first : (n k f : ℕ) (s letters : List ℕ) → 1 < n → firstClean k (letterBefore false f s) s letters (above (take 3 (n ∷ pairs n 1 8))) ≡ around n (firstShift (λ e. clean k f (drop (moved e n) s) (drop (moved e n) letters)))
+pub around-first : (n k f : ℕ) (s letters : List ℕ) → 1 < n → firstClean k (letterBefore false f s) s letters (window n 1) ≡ around n (firstShift (λ e. clean k f (drop (moved e n) s) (drop (moved e n) letters)))
 unfolding firstClean letterBefore
 around-first n k f s letters h = ap (firstClean k (letterBefore false f s) s letters) (three-starts n h) ∙ go (at n) (at (n - 1)) (at (n + 1))
   where

@@ -26,7 +26,7 @@ find-clean-requires c κs =
     let r = size-room (a .marked) (length (a .message .now)) (h .1) in
     let n = c .before .before .size-of .ensures in
     let l = c .last-of .ensures ∙ tail-last (a .message .now) (a .tail) (b .pre .0 .1) (h .1 .0) in
-    (b .pre .0 .0, ((h .0, omega (arith, r .0, n), omega (arith, r .1, n)), (first-length (a .rest .now) (b .pre .0 .2) (h .2), omega arith, omega (arith, l, last-below (a .message .now)))))
+    (b .pre .0 .0, ((h .0, omega (arith, r .0, n), omega (arith, r .1, n)), (first-length (a .rest .now) (b .pre .0 .2) (h .2), omega (arith, l, last-below (a .message .now)))))
 
 returns : tie.Need-returns
 returns c =
