@@ -40,6 +40,7 @@ pub record Try : Type 0 where
   pub sought : ℕ
   pub start : ℕ
 
+-- the try at the start o for a segment of length k
 abbrev pub tryAt : ℕ → ℕ → ℕ → Try
 tryAt passed k o = record { passed = passed; sought = k; start = o }
 
@@ -86,8 +87,8 @@ lostOutcome piece k v = record { piece = piece; message = replicate k 0; verdict
 abbrev pub unfound : ℕ → Outcome
 unfound k = lostOutcome [] k NoStart
 
--- a lost segment, and those after it: passed and then from the start that the scan found, or lost too; `next` reads them from how many are passed,
--- f and the start, counted from P
+-- a lost segment, and those after it: from the start that the scan found, some of them passed, or lost too; `next` reads them from how many are
+-- passed, f and the start, counted from P
 abbrev pub lostAndRest : ℕ → List ℕ → List ℕ → List ℕ → ℕ → (ℕ → ℕ → ℕ → List Outcome) → Option Try → List Outcome
 lostAndRest k ks s letters step next (some t) = lostOutcome (take (t .start) letters) k (Lost step) ∷ next (t .passed) (getD s (t .start - 1) 0) (t .start)
 lostAndRest k ks s letters step next none = lostOutcome letters k (Lost step) ∷ map unfound ks
@@ -97,7 +98,7 @@ abbrev pub segmentAndRest : ℕ → List ℕ → List ℕ → List ℕ → (ℕ 
 segmentAndRest k ks s letters next found (read m e o) = record { piece = take o letters; message = m; verdict = told (Read e) (take o letters) } ∷ next 0 (lastOf m) o
 segmentAndRest k ks s letters next found (lost step) = lostAndRest k ks s letters step next found
 
--- what behind a lost segment of length n is found, ks being the lengths behind it
+-- how a scan answers: what is found behind a lost segment of length n, ks being the lengths behind it
 abbrev pub Scan : Type 0
 Scan = ℕ → List ℕ → List ℕ → List ℕ → Option Try
 

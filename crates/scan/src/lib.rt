@@ -77,6 +77,7 @@ pub fn find_clean(
     if letters.len() < p + size {
         return Next::Nowhere;
     }
+    // Starts behind the last one with room are passed over together.
     let last = letters.len() - (p + size);
     let mut tried = first_at_most(n, last);
     let mut step = 1;
@@ -90,6 +91,7 @@ pub fn find_clean(
             step = 2;
             continue 'starts;
         }
+        // Two equal letters are its marker, the first of its message is another, and three equal ones are its separator.
         let at = p + offset;
         let mark = letters[at];
         if mark != letters[at + 1] {

@@ -28,6 +28,7 @@ fn scan_behind(letters: &[u8], p: usize, marked: bool, k: usize, rest: &[u16]) -
     let mut later = rest;
     while 0 < later.len() {
         let wide = 8 * (passed as usize + 1);
+        // No start of this window or a later one has room.
         if letters.len() + wide <= p + centre {
             return Next::Nowhere;
         }
