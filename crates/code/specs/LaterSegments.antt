@@ -101,7 +101,8 @@ Stays-found = (n : ℕ) (ks s letters : List ℕ) (t : Try) → nextScan n ks s 
 pub data Kept : List Outcome → List Outcome → Type 0 where
   all : (os : List Outcome) → Kept os os
   same : (o : Outcome) {os ps : List Outcome} → Kept os ps → Kept (o ∷ os) (o ∷ ps)
-  tail : (k j : ℕ) (ks letters : List ℕ) (step n : ℕ) (ps : List Outcome) → length ps ≡ length (j ∷ ks) → Kept (lostOutcome letters k (Lost step) ∷ map unfound (j ∷ ks)) (lostOutcome (take n letters) k (Lost step) ∷ ps)
+  tail : (k j : ℕ) (ks letters : List ℕ) (step n : ℕ) (ps : List Outcome) → length ps ≡ length (j ∷ ks)
+      → Kept (lostOutcome letters k (Lost step) ∷ map unfound (j ∷ ks)) (lostOutcome (take n letters) k (Lost step) ∷ ps)
 
 -- a start was found for every segment
 abbrev pub AllFound : List Outcome → Type 0

@@ -57,6 +57,7 @@ pub record Ahead : Type 0 where
   pub place : ℕ
   pub before : ℕ
 
+-- n segments are passed, and the next one starts at p, behind the symbol f
 abbrev pub ahead : ℕ → ℕ → ℕ → Ahead
 ahead n p f = record { passed = n; place = p; before = f }
 

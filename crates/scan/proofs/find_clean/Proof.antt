@@ -29,60 +29,17 @@ Inv-starts letters p n k wide received f passed size last tried₀ step₀ tried
 abbrev μ-starts : tie.MeasureT-starts
 μ-starts letters p n k wide received f passed size last tried₀ step₀ tried step = 2 * n + 3 - tried
 
-size-of-requires : tie.Need-size-of-requires Inv-loop μ-loop Inv-starts μ-starts
-size-of-requires c κs = (omega arith, omega arith)
-
-add-if1 : tie.Need-add-if1 Inv-loop μ-loop Inv-starts μ-starts
-add-if1 c = omega (arith, c .size-of .ensures, size-is (c .before .before .args .k), width-small (c .before .before .args .k) (omega arith))
-
 returns : tie.Need-returns Inv-loop μ-loop Inv-starts μ-starts
 returns c = let a = c .before .before .before .args in sym (none-whole (a .letters .now) (a .p) (a .n) (a .k) (a .wide) (a .received) (a .f) (a .passed) (omega (arith, c .before .size-of .ensures, c .if1 .taken)))
 
-add-last : tie.Need-add-last Inv-loop μ-loop Inv-starts μ-starts
-add-last c = omega (arith, c .if1 .left)
-
-sub-last : tie.Need-sub-last Inv-loop μ-loop Inv-starts μ-starts
-sub-last c = omega (arith, c .if1 .left)
-
-first-at-most-requires : tie.Need-first-at-most-requires Inv-loop μ-loop Inv-starts μ-starts
-first-at-most-requires c κs = omega (arith, c .before .before .before .pre .1 .0 .2)
-
 starts-holds : tie.Need-starts-holds Inv-loop μ-loop Inv-starts μ-starts
 starts-holds c = let a = c .before .before .before .before .args in rw (c .first-at-most .ensures) (turn-begin (a .letters .now) (a .p) (a .n) (a .k) (a .wide) (a .received) (a .f) (a .passed) _ (omega (arith, c .before .before .size-of .ensures, c .before .if1 .left)))
-
-mul-if2 : tie.Need-mul-if2 Inv-loop μ-loop Inv-starts μ-starts
-mul-if2 c = omega arith
-
-moved-by-requires : tie.Need-moved-by-requires Inv-loop μ-loop Inv-starts μ-starts
-moved-by-requires c κs = (omega arith, omega arith, omega arith)
-
-add-tried : tie.Need-add-tried Inv-loop μ-loop Inv-starts μ-starts
-add-tried c = let i = c .before .before .starts .inv in omega (arith, i .few, i .most)
-
-starts-less : tie.Need-starts-less Inv-loop μ-loop Inv-starts μ-starts
-starts-less c = let i = c .before .before .before .starts .inv in omega (arith, i .few, i .least, c .before .before .if2 .left)
 
 starts-again : tie.Need-starts-again Inv-loop μ-loop Inv-starts μ-starts
 starts-again c =
     let a = c .before .before .before .before .before .before .before .before .args in
     let o = c .before .before .before .starts in
     turn-past (o .inv) (omega (arith, c .before .before .if2 .left)) (c .before .before .before .before .before .before .before .before .pre .1 .0 .1) (omega (arith, c .before .moved-by .ensures, c .if3 .taken))
-
--- a segment that starts there has room
-add-at : tie.Need-add-at Inv-loop μ-loop Inv-starts μ-starts
-add-at c = omega (arith, c .if3 .left, c .before .before .before .starts .inv .room)
-
-shared-slice-read-mark : tie.Need-shared-slice-read-mark Inv-loop μ-loop Inv-starts μ-starts
-shared-slice-read-mark c = omega (arith, c .before .if3 .left, c .before .before .before .before .starts .inv .room, size-is (c .before .before .before .before .before .before .before .before .before .args .k))
-
-add-if4 : tie.Need-add-if4 Inv-loop μ-loop Inv-starts μ-starts
-add-if4 c = omega (arith, c .before .if3 .left, c .before .before .before .before .starts .inv .room)
-
-shared-slice-read-if4 : tie.Need-shared-slice-read-if4 Inv-loop μ-loop Inv-starts μ-starts
-shared-slice-read-if4 c = omega (arith, c .before .before .if3 .left, c .before .before .before .before .before .starts .inv .room, size-is (c .before .before .before .before .before .before .before .before .before .before .args .k))
-
-starts-less-2 : tie.Need-starts-less-2 Inv-loop μ-loop Inv-starts μ-starts
-starts-less-2 c = let i = c .before .before .before .before .before .before .starts .inv in omega (arith, i .few, i .least, c .before .before .before .before .before .if2 .left)
 
 starts-again-2 : tie.Need-starts-again-2 Inv-loop μ-loop Inv-starts μ-starts
 starts-again-2 c =
@@ -91,26 +48,12 @@ starts-again-2 c =
     let m = c .before .before .before .before .moved-by in
     turn-unclean (o .inv) (omega (arith, c .before .before .before .before .before .if2 .left)) (c .before .before .before .before .before .before .before .before .before .before .before .pre .1 .0 .1) (m .result) (m .ensures) (λ g. unequal-unclean (a .k) g _ (a .letters .now) (a .p + m .result) (c .if4 .taken))
 
--- the first of its message is another
-add-if5 : tie.Need-add-if5 Inv-loop μ-loop Inv-starts μ-starts
-add-if5 c = omega (arith, c .before .before .before .if3 .left, c .before .before .before .before .before .before .starts .inv .room)
-
-shared-slice-read-if5 : tie.Need-shared-slice-read-if5 Inv-loop μ-loop Inv-starts μ-starts
-shared-slice-read-if5 c = omega (arith, c .before .before .before .before .if3 .left, c .before .before .before .before .before .before .before .starts .inv .room, size-is (c .before .before .before .before .before .before .before .before .before .before .before .before .args .k))
-
-starts-less-3 : tie.Need-starts-less-3 Inv-loop μ-loop Inv-starts μ-starts
-starts-less-3 c = let i = c .before .before .before .before .before .before .before .before .starts .inv in omega (arith, i .few, i .least, c .before .before .before .before .before .before .before .if2 .left)
-
 starts-again-3 : tie.Need-starts-again-3 Inv-loop μ-loop Inv-starts μ-starts
 starts-again-3 c =
     let a = c .before .before .before .before .before .before .before .before .before .before .before .before .before .args in
     let o = c .before .before .before .before .before .before .before .before .starts in
     let m = c .before .before .before .before .before .before .moved-by in
     turn-unclean (o .inv) (omega (arith, c .before .before .before .before .before .before .before .if2 .left)) (c .before .before .before .before .before .before .before .before .before .before .before .before .before .pre .1 .0 .1) (m .result) (m .ensures) (λ g. repeated-unclean (a .k) g (a .letters .now) (a .p + m .result) (omega (arith, c .before .before .before .before .before .before .before .before .before .before .before .before .before .pre .1 .1 .0 .0)) (omega (arith, c .before .before .before .before .before .if3 .left, o .inv .room)) (c .if5 .taken))
-
--- three equal letters are its separator
-starts-less-4 : tie.Need-starts-less-4 Inv-loop μ-loop Inv-starts μ-starts
-starts-less-4 c = let i = c .before .before .before .before .before .before .before .before .before .before .starts .inv in omega (arith, i .few, i .least, c .before .before .before .before .before .before .before .before .before .if2 .left)
 
 starts-again-4 : tie.Need-starts-again-4 Inv-loop μ-loop Inv-starts μ-starts
 starts-again-4 c =
@@ -119,16 +62,6 @@ starts-again-4 c =
     let m = c .before .before .before .before .before .before .before .before .moved-by in
     turn-unclean (o .inv) (omega (arith, c .before .before .before .before .before .before .before .before .before .if2 .left)) (c .before .before .before .before .before .before .before .before .before .before .before .before .before .before .before .pre .1 .0 .1) (m .result) (m .ensures) (λ g. unseparated-unclean (a .k) g (a .letters .now) (a .p + m .result) (omega (arith, c .before .before .before .before .before .before .before .if3 .left, o .inv .room)) (sym (c .before .three-equal .ensures) ∙ not-true _ (c .if6 .taken)))
 
-add-three-equal : tie.Need-add-three-equal Inv-loop μ-loop Inv-starts μ-starts
-add-three-equal c = omega (arith, c .before .before .before .before .before .if3 .left, c .before .before .before .before .before .before .before .before .starts .inv .room)
-
-three-equal-requires : tie.Need-three-equal-requires Inv-loop μ-loop Inv-starts μ-starts
-three-equal-requires c κs = omega (arith, c .before .before .before .before .before .if3 .left, c .before .before .before .before .before .before .before .before .starts .inv .room, size-is (c .before .before .before .before .before .before .before .before .before .before .before .before .before .args .k))
-
--- P itself is no start
-starts-less-5 : tie.Need-starts-less-5 Inv-loop μ-loop Inv-starts μ-starts
-starts-less-5 c = let i = c .before .before .before .before .before .before .before .before .before .before .before .starts .inv in omega (arith, i .few, i .least, c .before .before .before .before .before .before .before .before .before .before .if2 .left)
-
 starts-again-5 : tie.Need-starts-again-5 Inv-loop μ-loop Inv-starts μ-starts
 starts-again-5 c =
     let a = c .before .before .before .before .before .before .before .before .before .before .before .before .before .before .before .before .args in
@@ -136,17 +69,11 @@ starts-again-5 c =
     let m = c .before .before .before .before .before .before .before .before .before .moved-by in
     turn-zero (o .inv) (omega (arith, c .before .before .before .before .before .before .before .before .before .before .if2 .left)) (c .before .before .before .before .before .before .before .before .before .before .before .before .before .before .before .before .pre .1 .0 .1) (m .result) (m .ensures) (c .if7 .taken)
 
-letter-before-requires : tie.Need-letter-before-requires Inv-loop μ-loop Inv-starts μ-starts
-letter-before-requires c κs = (omega (arith, c .if7 .left), omega (arith, c .before .before .before .before .before .before .before .before .if3 .left, c .before .before .before .before .before .before .before .before .before .before .before .starts .inv .room, size-is (c .before .before .before .before .before .before .before .before .before .before .before .before .before .before .before .before .args .k)))
-
 marker-stands-requires : tie.Need-marker-stands-requires Inv-loop μ-loop Inv-starts μ-starts
 marker-stands-requires c κs =
     let a = c .before .before .before .before .before .before .before .before .before .before .before .before .before .before .before .before .before .args in
     let x = c .letter-before in
     (rw (x .ensures) (letter-below (a .received) (a .f) (asSymbols (a .letters .now)) (as-below (a .letters .now)) (c .before .before .before .before .before .before .before .before .before .before .before .before .before .before .before .before .before .pre .1 .1 .1) (a .p + c .before .before .before .before .before .before .before .before .before .before .moved-by .result)), omega (arith, c .before .before .before .before .before .before .before .before .before .if3 .left, c .before .before .before .before .before .before .before .before .before .before .before .before .starts .inv .room, size-is (a .k), c .before .before .before .before .before .before .before .before .before .before .before .before .before .before .before .before .before .pre .1 .1 .0 .0), omega (arith, c .before .before .before .before .before .before .before .before .before .if3 .left, c .before .before .before .before .before .before .before .before .before .before .before .before .starts .inv .room))
-
-starts-less-6 : tie.Need-starts-less-6 Inv-loop μ-loop Inv-starts μ-starts
-starts-less-6 c = let i = c .before .before .before .before .before .before .before .before .before .before .before .before .before .before .starts .inv in omega (arith, i .few, i .least, c .before .before .before .before .before .before .before .before .before .before .before .before .before .if2 .left)
 
 starts-again-6 : tie.Need-starts-again-6 Inv-loop μ-loop Inv-starts μ-starts
 starts-again-6 c =
@@ -156,29 +83,6 @@ starts-again-6 c =
     let x = c .before .before .letter-before in
     let y = c .before .marker-stands in
     turn-pass (o .inv) (omega (arith, c .before .before .before .before .before .before .before .before .before .before .before .before .before .if2 .left)) (c .before .before .before .before .before .before .before .before .before .before .before .before .before .before .before .before .before .before .before .pre .1 .0 .1) (m .result) (m .ensures) (omega (arith, c .before .before .before .if7 .left)) (rw (← x .ensures) (unclean (a .k) (x .result) (a .letters .now) (a .p + m .result) (omega (arith, c .before .before .before .before .before .before .before .before .before .before .before .if3 .left, o .inv .room)) (unmarked (a .k) (x .result) (a .letters .now) (a .p + m .result) (y .result) (y .ensures) (c .before .before .before .before .before .before .before .before .before .before .before .before .before .before .before .before .before .before .before .pre .1 .1 .0 .0) (not-true _ (c .if8 .taken)))))
-
-add-behind : tie.Need-add-behind Inv-loop μ-loop Inv-starts μ-starts
-add-behind c = omega arith
-
-add-behind-2 : tie.Need-add-behind-2 Inv-loop μ-loop Inv-starts μ-starts
-add-behind-2 c = omega (arith, c .before .before .before .before .before .if3 .left, c .before .before .before .before .before .before .before .before .starts .inv .room)
-
--- the message of a segment whose marker stands
-add-has-unknown : tie.Need-add-has-unknown Inv-loop μ-loop Inv-starts μ-starts
-add-has-unknown c = omega (arith, c .before .before .before .before .before .before .before .before .before .before .before .if3 .left, c .before .before .before .before .before .before .before .before .before .before .before .before .before .before .starts .inv .room)
-
-sub-has-unknown : tie.Need-sub-has-unknown Inv-loop μ-loop Inv-starts μ-starts
-sub-has-unknown c = omega arith
-
-part-has-unknown-start : tie.Need-part-has-unknown-start Inv-loop μ-loop Inv-starts μ-starts
-part-has-unknown-start c = omega arith
-
-part-has-unknown-end : tie.Need-part-has-unknown-end Inv-loop μ-loop Inv-starts μ-starts
-part-has-unknown-end c = omega (arith, c .before .before .before .before .before .before .before .before .before .before .before .if3 .left, c .before .before .before .before .before .before .before .before .before .before .before .before .before .before .starts .inv .room, size-is (c .before .before .before .before .before .before .before .before .before .before .before .before .before .before .before .before .before .before .before .args .k))
-
--- one with an N is passed over
-starts-less-7 : tie.Need-starts-less-7 Inv-loop μ-loop Inv-starts μ-starts
-starts-less-7 c = let i = c .before .before .before .before .before .before .before .before .before .before .before .before .before .before .before .before .before .starts .inv in omega (arith, i .few, i .least, c .before .before .before .before .before .before .before .before .before .before .before .before .before .before .before .before .if2 .left)
 
 starts-again-7 : tie.Need-starts-again-7 Inv-loop μ-loop Inv-starts μ-starts
 starts-again-7 c =
@@ -191,18 +95,6 @@ starts-again-7 c =
     let e = sym (c .before .has-unknown .ensures) ∙ c .if9 .taken in
     let u : hasUnknown (take (a .k) (drop 2 (drop at l))) ≡ true = rw (drop-drop 2 at l) (rw n at e) in
     turn-pass (o .inv) (omega (arith, c .before .before .before .before .before .before .before .before .before .before .before .before .before .before .before .before .if2 .left)) (c .before .before .before .before .before .before .before .before .before .before .before .before .before .before .before .before .before .before .before .before .before .before .pre .1 .0 .1) (m .result) (m .ensures) (omega (arith, c .before .before .before .before .before .before .if7 .left)) (clean-unknown (a .k) _ l at (omega (arith, c .before .before .before .before .before .before .before .before .before .before .before .before .before .before .if3 .left, o .inv .room)) u)
-
-add-tail-of : tie.Need-add-tail-of Inv-loop μ-loop Inv-starts μ-starts
-add-tail-of c = omega (arith, c .before .before .before .before .before .before .before .before .before .before .before .before .before .before .if3 .left, c .before .before .before .before .before .before .before .before .before .before .before .before .before .before .before .before .before .starts .inv .room)
-
-sub-tail-of : tie.Need-sub-tail-of Inv-loop μ-loop Inv-starts μ-starts
-sub-tail-of c = omega arith
-
-part-tail-of-start : tie.Need-part-tail-of-start Inv-loop μ-loop Inv-starts μ-starts
-part-tail-of-start c = omega arith
-
-part-tail-of-end : tie.Need-part-tail-of-end Inv-loop μ-loop Inv-starts μ-starts
-part-tail-of-end c = omega (arith, c .before .before .before .before .before .before .before .before .before .before .before .before .before .before .if3 .left, c .before .before .before .before .before .before .before .before .before .before .before .before .before .before .before .before .before .starts .inv .room, size-is (c .before .before .before .before .before .before .before .before .before .before .before .before .before .before .before .before .before .before .before .before .before .before .args .k))
 
 tail-of-requires : tie.Need-tail-of-requires Inv-loop μ-loop Inv-starts μ-starts
 tail-of-requires c κs =
@@ -226,21 +118,6 @@ loop-holds c =
     let d = marked (a .k) (x .result) s at (y .result) (y .ensures) (c .before .before .before .before .before .before .before .before .before .before .before .before .before .before .before .before .before .before .before .before .before .before .before .before .pre .1 .1 .0 .0) (not-false _ (c .before .before .before .before .before .if8 .left)) (e .result) (part-tail s at (a .k) room (e .result) (e .ensures)) in
     compared-begin s (e .result) (at + (2 + a .k)) _ (omega (arith, w, l)) (omega (arith, r, g, w, size-is (a .k))) (rw (← x .ensures) d)
 
-add-loop : tie.Need-add-loop Inv-loop μ-loop Inv-starts μ-starts
-add-loop c = let i = c .loop .inv in omega (arith, i .fits)
-
-symbol-in-requires : tie.Need-symbol-in-requires Inv-loop μ-loop Inv-starts μ-starts
-symbol-in-requires c κs = let i = c .before .loop .inv in (omega arith, i .fits)
-
-add-if10 : tie.Need-add-if10 Inv-loop μ-loop Inv-starts μ-starts
-add-if10 c = let i = c .before .before .loop .inv in omega (arith, i .within)
-
-shared-slice-read-if10 : tie.Need-shared-slice-read-if10 Inv-loop μ-loop Inv-starts μ-starts
-shared-slice-read-if10 c = let i = c .before .before .before .loop .inv in omega (arith, i .within)
-
-starts-less-8 : tie.Need-starts-less-8 Inv-loop μ-loop Inv-starts μ-starts
-starts-less-8 c = let i = c .before .before .before .before .before .before .before .before .before .before .before .before .before .before .before .before .before .before .before .before .before .before .before .before .starts .inv in omega (arith, i .few, i .least, c .before .before .before .before .before .before .before .before .before .before .before .before .before .before .before .before .before .before .before .before .before .before .before .if2 .left)
-
 starts-again-8 : tie.Need-starts-again-8 Inv-loop μ-loop Inv-starts μ-starts
 starts-again-8 c =
     let a = c .before .before .before .before .before .before .before .before .before .before .before .before .before .before .before .before .before .before .before .before .before .before .before .before .before .before .before .before .before .args in
@@ -251,12 +128,6 @@ starts-again-8 c =
     let l = c .before .before .before .before .loop in
     let x = c .before .before .symbol-in in
     turn-pass (o .inv) (omega (arith, c .before .before .before .before .before .before .before .before .before .before .before .before .before .before .before .before .before .before .before .before .before .before .before .if2 .left)) (c .before .before .before .before .before .before .before .before .before .before .before .before .before .before .before .before .before .before .before .before .before .before .before .before .before .before .before .before .before .pre .1 .0 .1) (m .result) (m .ensures) (omega (arith, c .before .before .before .before .before .before .before .before .before .before .before .before .before .if7 .left)) (unclean (a .k) _ s at (omega (arith, c .before .before .before .before .before .before .before .before .before .before .before .before .before .before .before .before .before .before .before .before .before .if3 .left, o .inv .room)) (compared-stop s (c .before .before .before .before .before .tail-of .result) (at + (2 + a .k)) _ (l .j) (l .inv) (c .before .before .before .loop-test .taken) (x .result) (x .ensures) (c .if10 .taken)))
-
-add-j : tie.Need-add-j Inv-loop μ-loop Inv-starts μ-starts
-add-j c = let i = c .before .before .before .before .loop .inv in omega (arith, i .fits)
-
-loop-less : tie.Need-loop-less Inv-loop μ-loop Inv-starts μ-starts
-loop-less c = omega arith
 
 loop-again : tie.Need-loop-again Inv-loop μ-loop Inv-starts μ-starts
 loop-again c =
@@ -291,61 +162,61 @@ find-clean-spec =
     μ-loop
     Inv-starts
     μ-starts
-    size-of-requires
-    add-if1
+    (λ c κs. (omega arith, omega arith))
+    (λ c. omega (arith, c .size-of .ensures, size-is (c .before .before .args .k), width-small (c .before .before .args .k) (omega arith)))
     returns
-    add-last
-    sub-last
-    first-at-most-requires
+    (λ c. omega (arith, c .if1 .left))
+    (λ c. omega (arith, c .if1 .left))
+    (λ c κs. omega (arith, c .before .before .before .pre .1 .0 .2))
     starts-holds
-    mul-if2
-    moved-by-requires
-    add-tried
-    starts-less
+    (λ c. omega arith)
+    (λ c κs. (omega arith, omega arith, omega arith))
+    (λ c. let i = c .before .before .starts .inv in omega (arith, i .few, i .most))
+    (λ c. let i = c .before .before .before .starts .inv in omega (arith, i .few, i .least, c .before .before .if2 .left))
     starts-again
-    add-at
-    shared-slice-read-mark
-    add-if4
-    shared-slice-read-if4
-    starts-less-2
+    (λ c. omega (arith, c .if3 .left, c .before .before .before .starts .inv .room))
+    (λ c. omega (arith, c .before .if3 .left, c .before .before .before .before .starts .inv .room, size-is (c .before .before .before .before .before .before .before .before .before .args .k)))
+    (λ c. omega (arith, c .before .if3 .left, c .before .before .before .before .starts .inv .room))
+    (λ c. omega (arith, c .before .before .if3 .left, c .before .before .before .before .before .starts .inv .room, size-is (c .before .before .before .before .before .before .before .before .before .before .args .k)))
+    (λ c. let i = c .before .before .before .before .before .before .starts .inv in omega (arith, i .few, i .least, c .before .before .before .before .before .if2 .left))
     starts-again-2
-    add-if5
-    shared-slice-read-if5
-    starts-less-3
+    (λ c. omega (arith, c .before .before .before .if3 .left, c .before .before .before .before .before .before .starts .inv .room))
+    (λ c. omega (arith, c .before .before .before .before .if3 .left, c .before .before .before .before .before .before .before .starts .inv .room, size-is (c .before .before .before .before .before .before .before .before .before .before .before .before .args .k)))
+    (λ c. let i = c .before .before .before .before .before .before .before .before .starts .inv in omega (arith, i .few, i .least, c .before .before .before .before .before .before .before .if2 .left))
     starts-again-3
-    add-behind
-    add-behind-2
-    add-three-equal
-    three-equal-requires
-    starts-less-4
+    (λ c. omega arith)
+    (λ c. omega (arith, c .before .before .before .before .before .if3 .left, c .before .before .before .before .before .before .before .before .starts .inv .room))
+    (λ c. omega (arith, c .before .before .before .before .before .if3 .left, c .before .before .before .before .before .before .before .before .starts .inv .room))
+    (λ c κs. omega (arith, c .before .before .before .before .before .if3 .left, c .before .before .before .before .before .before .before .before .starts .inv .room, size-is (c .before .before .before .before .before .before .before .before .before .before .before .before .before .args .k)))
+    (λ c. let i = c .before .before .before .before .before .before .before .before .before .before .starts .inv in omega (arith, i .few, i .least, c .before .before .before .before .before .before .before .before .before .if2 .left))
     starts-again-4
-    starts-less-5
+    (λ c. let i = c .before .before .before .before .before .before .before .before .before .before .before .starts .inv in omega (arith, i .few, i .least, c .before .before .before .before .before .before .before .before .before .before .if2 .left))
     starts-again-5
-    letter-before-requires
+    (λ c κs. (omega (arith, c .if7 .left), omega (arith, c .before .before .before .before .before .before .before .before .if3 .left, c .before .before .before .before .before .before .before .before .before .before .before .starts .inv .room, size-is (c .before .before .before .before .before .before .before .before .before .before .before .before .before .before .before .before .args .k))))
     marker-stands-requires
-    starts-less-6
+    (λ c. let i = c .before .before .before .before .before .before .before .before .before .before .before .before .before .before .starts .inv in omega (arith, i .few, i .least, c .before .before .before .before .before .before .before .before .before .before .before .before .before .if2 .left))
     starts-again-6
-    add-has-unknown
-    sub-has-unknown
-    part-has-unknown-start
-    part-has-unknown-end
+    (λ c. omega (arith, c .before .before .before .before .before .before .before .before .before .before .before .if3 .left, c .before .before .before .before .before .before .before .before .before .before .before .before .before .before .starts .inv .room))
+    (λ c. omega arith)
+    (λ c. omega arith)
+    (λ c. omega (arith, c .before .before .before .before .before .before .before .before .before .before .before .if3 .left, c .before .before .before .before .before .before .before .before .before .before .before .before .before .before .starts .inv .room, size-is (c .before .before .before .before .before .before .before .before .before .before .before .before .before .before .before .before .before .before .before .args .k)))
     (λ c κs. search needs)
-    starts-less-7
+    (λ c. let i = c .before .before .before .before .before .before .before .before .before .before .before .before .before .before .before .before .before .starts .inv in omega (arith, i .few, i .least, c .before .before .before .before .before .before .before .before .before .before .before .before .before .before .before .before .if2 .left))
     starts-again-7
-    add-tail-of
-    sub-tail-of
-    part-tail-of-start
-    part-tail-of-end
+    (λ c. omega (arith, c .before .before .before .before .before .before .before .before .before .before .before .before .before .before .if3 .left, c .before .before .before .before .before .before .before .before .before .before .before .before .before .before .before .before .before .starts .inv .room))
+    (λ c. omega arith)
+    (λ c. omega arith)
+    (λ c. omega (arith, c .before .before .before .before .before .before .before .before .before .before .before .before .before .before .if3 .left, c .before .before .before .before .before .before .before .before .before .before .before .before .before .before .before .before .before .starts .inv .room, size-is (c .before .before .before .before .before .before .before .before .before .before .before .before .before .before .before .before .before .before .before .before .before .before .args .k)))
     tail-of-requires
     loop-holds
-    add-loop
-    symbol-in-requires
-    add-if10
-    shared-slice-read-if10
-    starts-less-8
+    (λ c. let i = c .loop .inv in omega (arith, i .fits))
+    (λ c κs. let i = c .before .loop .inv in (omega arith, i .fits))
+    (λ c. let i = c .before .before .loop .inv in omega (arith, i .within))
+    (λ c. let i = c .before .before .before .loop .inv in omega (arith, i .within))
+    (λ c. let i = c .before .before .before .before .before .before .before .before .before .before .before .before .before .before .before .before .before .before .before .before .before .before .before .before .starts .inv in omega (arith, i .few, i .least, c .before .before .before .before .before .before .before .before .before .before .before .before .before .before .before .before .before .before .before .before .before .before .before .if2 .left))
     starts-again-8
-    add-j
-    loop-less
+    (λ c. let i = c .before .before .before .before .loop .inv in omega (arith, i .fits))
+    (λ c. omega arith)
     loop-again
     returns-2
     returns-3)
