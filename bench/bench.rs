@@ -40,8 +40,8 @@ enum Side {
 
 /// The lent buffers of one side.
 struct Room {
-    strand: [u8; 2048],
-    message: [u8; 128],
+    strand: [u8; 3072],
+    message: [u8; 512],
     sheet: [u8; 16],
     lines: [u8; 960],
 }
@@ -49,8 +49,8 @@ struct Room {
 impl Room {
     fn new() -> Room {
         Room {
-            strand: [0; 2048],
-            message: [0; 128],
+            strand: [0; 3072],
+            message: [0; 512],
             sheet: [0; 16],
             lines: [0; 960],
         }
@@ -313,7 +313,13 @@ fn worst_letters() -> Vec<u8> {
     period.iter().copied().cycle().take(2048).collect()
 }
 
-/// The layouts of the table, by name.
+/// Whether the other side takes an order; one whose limits are smaller refuses it.
+fn rival_takes(lengths: &[u16], b: u32) -> bool {
+    let message = vec![0; b as usize];
+    write_one(Side::Tuned, lengths, b, &message, &mut Room::new()) > 0
+}
+
+/// The layouts of the table, by name; those that the other side refuses are left out.
 fn layouts() -> Vec<(&'static str, Vec<u16>, u32)> {
     let equal = |name, k, b| (name, strands::equal_lengths(k, b), b);
     let mut layouts = vec![
@@ -322,10 +328,13 @@ fn layouts() -> Vec<(&'static str, Vec<u16>, u32)> {
         equal("k=8 B=128", 8, 128),
         equal("k=2 B=1", 2, 1),
         equal("k=24 B=72", 24, 72),
+        equal("k=256 B=512", 256, 512),
+        equal("k=32 B=512", 32, 512),
     ];
     if tuned::MIXED {
         layouts.push(("8 to 64 B=72", MIXED.to_vec(), 72));
     }
+    layouts.retain(|(_, lengths, b)| rival_takes(lengths, *b));
     layouts
 }
 
@@ -418,7 +427,7 @@ fn work(side: &str, strands: &str, count: usize) {
     let (lengths, b, jobs) = match (strands, strands.parse()) {
         ("worst", _) => (worst_lengths(), 128, &[Job::Worst][..]),
         ("untouched", _) => (worst_lengths(), 128, &[Job::Untouched][..]),
-        (_, Ok(b @ (8 | 32 | 128))) => (strands::equal_lengths(16, b), b, &mixed[..]),
+        (_, Ok(b @ (8 | 32 | 128 | 256))) => (strands::equal_lengths(16, b), b, &mixed[..]),
         _ => usage(),
     };
     let mut all = Vec::new();
@@ -443,7 +452,7 @@ fn work(side: &str, strands: &str, count: usize) {
 
 fn usage() -> ! {
     eprintln!(
-        "usage: bench | bench report | bench work library|tuned|report|none 8|32|128|untouched|worst N"
+        "usage: bench | bench report | bench work library|tuned|report|none 8|32|128|256|untouched|worst N"
     );
     exit(2);
 }

@@ -1,10 +1,8 @@
 //! The independent reader and writer of DNA-LM strands, tuned by hand: safe Rust, no allocation.
-//! It keeps the reading steps of docs/SPECIFICATION.md, the symbols of the strand in an array of 2,048,
-//! and a verdict for each segment, from which mark, sheet and counts are taken. Equal lengths have a walk of their own,
-//! and so have strands with an N.
+//! It keeps the reading steps of docs/SPECIFICATION.md, the symbols of the strand in an array of 2,048, or of 4,096 where
+//! it is longer, and a verdict for each segment, from which mark, sheet and counts are taken. Each k up to 64 has a copy of
+//! the code, as has 256; those between share one. Equal lengths have a walk of their own, and so have strands with an N.
 //! Its step 10 keeps the single scan: it seeks the next segment in one window; if that finds none, all later ones are lost.
-
-use std::ops::Deref;
 
 /// It takes lengths that are not equal.
 pub const MIXED: bool = true;
@@ -41,40 +39,172 @@ enum Verdict {
 
 /// A one in each byte; eight symbols are worked on in one number.
 const ONES: u64 = 0x0101_0101_0101_0101;
+/// Keeps every other byte.
+const EVEN: u64 = 0x00FF_00FF_00FF_00FF;
 /// The weights 1 to 8 for the bytes of a number, first byte first, as a factor.
 const WEIGHTS_1: u64 = 0x0102_0304_0506_0708;
 /// The weights 9 to 16.
 const WEIGHTS_9: u64 = 0x090A_0B0C_0D0E_0F10;
+/// The weights 1, 3, 5 and 7 for parts of 16 bits.
+const WEIGHTS_ODD: u64 = 0x0001_0003_0005_0007;
+/// The weights 2, 4, 6 and 8 for parts of 16 bits.
+const WEIGHTS_EVEN: u64 = 0x0002_0004_0006_0008;
 /// Brings the bytes of a number, each 0 or 1, into its highest byte as bits, first byte lowest.
 const WEIGHT_BITS: u64 = 0x0102_0408_1020_4080;
 /// The moves of a scan.
 const MOVES: [isize; 17] = [0, -1, 1, -2, 2, -3, 3, -4, 4, -5, 5, -6, 6, -7, 7, -8, 8];
 /// Stands in the array for each place past the strand's end.
 const PAST: u8 = 4;
-/// A segment with a letter more, and what is loaded behind it.
-const WINDOW: usize = 96;
-/// The window behind the marker.
-const BODY: usize = WINDOW - 2;
-/// The most numbers of eight symbols behind the marker: eight of the message, two more of the tail.
-const CHUNKS: usize = 10;
+/// The longest window of a segment.
+const MOST_WINDOW: usize = 288;
 
-/// The numbers that follow from k; a message takes C numbers of eight symbols.
-struct Shape<const K: usize, const C: usize>;
-
-impl<const K: usize, const C: usize> Shape<K, C> {
-    const CYCLE: u32 = 2 * K as u32;
-    const T: usize = (u32::BITS - (Self::CYCLE - 1).leading_zeros()) as usize;
-    /// The length of a segment behind its marker.
-    const BODY: usize = K + Self::T + 4;
-    /// Keeps the message's symbols of its last number.
-    const KEEP: u64 = u64::MAX >> (8 * (8 * C - K));
-    /// Keeps t symbols.
-    const KEEP_T: u64 = (1 << (8 * Self::T)) - 1;
-    /// Brings seven syndrome symbols down to t.
-    const NARROW: usize = 7 - Self::T;
+/// An array that begins as zeros.
+trait Array<T>: AsRef<[T]> + AsMut<[T]> {
+    const ZEROS: Self;
 }
 
-/// Calls a function for k with K and C as constants; the last answer is for a k outside the limits.
+impl<const N: usize> Array<u8> for [u8; N] {
+    const ZEROS: Self = [0; N];
+}
+
+impl<const N: usize> Array<u64> for [u64; N] {
+    const ZEROS: Self = [0; N];
+}
+
+/// The length k of a segment, and the numbers that follow from it.
+trait Length: Copy {
+    /// It is at most 64.
+    const SHORT: bool;
+    /// The letters of a segment with one more, and what is loaded behind them.
+    const WINDOW: usize;
+    /// Four symbols to a byte.
+    type Part: Array<u8>;
+    /// Eight symbols to a number: those behind the marker, and a number more.
+    type Numbers: Array<u64>;
+
+    fn k(self) -> usize;
+
+    /// The remainder of a sum of places modulo 2k.
+    fn remainder(self, sum: u32) -> u32;
+
+    #[inline(always)]
+    fn cycle(self) -> u32 {
+        2 * self.k() as u32
+    }
+
+    #[inline(always)]
+    fn t(self) -> usize {
+        (u32::BITS - (self.cycle() - 1).leading_zeros()) as usize
+    }
+
+    /// The length of a segment behind its marker.
+    #[inline(always)]
+    fn body(self) -> usize {
+        self.k() + self.t() + 4
+    }
+
+    /// The numbers that a message takes, of C at most.
+    #[inline(always)]
+    fn numbers<const C: usize>(self) -> usize {
+        self.k().div_ceil(8).min(C)
+    }
+
+    /// Keeps the message's symbols of its last number.
+    #[inline(always)]
+    fn keep(self) -> u64 {
+        u64::MAX >> (8 * (self.k().next_multiple_of(8) - self.k()))
+    }
+
+    /// Brings the bits of eight symbols down to t of them.
+    #[inline(always)]
+    fn narrow(self) -> usize {
+        8 * (8 - self.t().min(8))
+    }
+
+    /// Keeps t symbols.
+    #[inline(always)]
+    fn keep_t(self) -> u128 {
+        (1 << (8 * self.t())) - 1
+    }
+}
+
+/// A k of 2 to 64.
+#[derive(Clone, Copy)]
+struct Short<const K: usize>;
+
+impl<const K: usize> Length for Short<K> {
+    const SHORT: bool = true;
+    const WINDOW: usize = 96;
+    type Part = [u8; 16];
+    type Numbers = [u64; 11];
+
+    #[inline(always)]
+    fn k(self) -> usize {
+        K
+    }
+
+    #[inline(always)]
+    fn remainder(self, sum: u32) -> u32 {
+        sum % (2 * K as u32)
+    }
+}
+
+/// A k of 65 to 256.
+#[derive(Clone, Copy)]
+struct Long<const K: usize>;
+
+impl<const K: usize> Length for Long<K> {
+    const SHORT: bool = false;
+    const WINDOW: usize = MOST_WINDOW;
+    type Part = [u8; 64];
+    type Numbers = [u64; 35];
+
+    #[inline(always)]
+    fn k(self) -> usize {
+        K
+    }
+
+    #[inline(always)]
+    fn remainder(self, sum: u32) -> u32 {
+        sum % (2 * K as u32)
+    }
+}
+
+/// A k of 65 to 255 that is no constant.
+#[derive(Clone, Copy)]
+struct Any(u16);
+
+impl Length for Any {
+    const SHORT: bool = false;
+    const WINDOW: usize = MOST_WINDOW;
+    type Part = [u8; 64];
+    type Numbers = [u64; 35];
+
+    #[inline(always)]
+    fn k(self) -> usize {
+        self.0 as usize
+    }
+
+    /// The quotient is exact: 2k times the factor is at most 2k above 2 to the 32, and a sum is below 2 to the 16.
+    #[inline(always)]
+    fn remainder(self, sum: u32) -> u32 {
+        let quotient = sum as u64 * FACTORS[self.0 as usize & 255] as u64 >> 32;
+        sum - quotient as u32 * self.cycle()
+    }
+}
+
+/// 2 to the 32 over 2k, rounded down, and one more.
+static FACTORS: [u32; 256] = {
+    let mut table = [0; 256];
+    let mut k = 65;
+    while k < 256 {
+        table[k] = ((1 << 32) / (2 * k as u64)) as u32 + 1;
+        k += 1;
+    }
+    table
+};
+
+/// Calls a function for k, with room for C numbers of a message; the last answer is for a k outside the limits.
 macro_rules! by_k {
     ($k:expr, $call:ident $arguments:tt, $otherwise:expr) => {
         by_k! { @ $k, $call $arguments, $otherwise;
@@ -90,12 +220,14 @@ macro_rules! by_k {
     };
     (@ $k:expr, $call:ident $arguments:tt, $otherwise:expr; $($c:literal: $($of:literal)*),*) => {
         match $k {
-            $($($of => by_k!(@ $call, $of, $c, $arguments),)*)*
+            $($($of => by_k!(@ $call, Short::<$of>, $c, $arguments),)*)*
+            256 => by_k!(@ $call, Long::<256>, 32, $arguments),
+            k @ 65..=255 => by_k!(@ $call, Any(k), 32, $arguments),
             _ => $otherwise,
         }
     };
-    (@ $call:ident, $of:literal, $c:literal, ($($argument:expr),*)) => {
-        $call::<$of, $c>($($argument),*)
+    (@ $call:ident, $length:expr, $c:literal, ($($argument:expr),*)) => {
+        $call::<_, $c>($length, $($argument),*)
     };
 }
 
@@ -122,20 +254,29 @@ static SEP: [u8; 64] = {
     table
 };
 
-/// The seven bits of the index as bytes, most significant first.
-static BITS: [u64; 128] = {
-    let mut table = [0; 128];
+/// The eight bits of the index as bytes, most significant first.
+static BITS: [u64; 256] = {
+    let mut table = [0; 256];
     let mut v = 0;
-    while v < 128 {
+    while v < 256 {
         let mut i = 0;
-        while i < 7 {
-            table[v] |= (v as u64 >> (6 - i) & 1) << (8 * i);
+        while i < 8 {
+            table[v] |= (v as u64 >> (7 - i) & 1) << (8 * i);
             i += 1;
         }
         v += 1;
     }
     table
 };
+
+/// The last syndrome symbols, eight at most, behind the first one where there are nine.
+#[inline(always)]
+fn behind_first(length: impl Length, last: u64, [low, high]: [u32; 2]) -> u128 {
+    if length.t() <= 8 {
+        return last as u128;
+    }
+    (high >> 8 << 1 | low >> 8) as u128 | (last as u128) << 8
+}
 
 const LETTERS: [u8; 4] = *b"ATCG";
 
@@ -155,6 +296,7 @@ static FOUR: [[u8; 4]; 256] = {
 };
 
 /// Of a byte's four symbols, 16 bits each: high places, low places (from 1), high ones, low ones.
+/// Of the 64 bytes of a message none passes 640, and none of their running sums 20,160.
 static FOUR_SUMS: [u64; 256] = {
     let mut table = [0; 256];
     let mut v = 0;
@@ -195,26 +337,34 @@ static CHECK_SEP_SYMBOLS: [u32; 64] = {
 };
 
 /// Ones, then zeros: a part of it keeps the bytes before a place.
-static BEFORE: [u8; 176] = {
-    let mut table = [0; 176];
+static BEFORE: [u8; 2 * MOST_WINDOW] = {
+    let mut table = [0; 2 * MOST_WINDOW];
     let mut i = 0;
-    while i < 88 {
+    while i < MOST_WINDOW {
         table[i] = 0xFF;
         i += 1;
     }
     table
 };
 
-/// The numbers that keep the bytes before a place.
+/// So many numbers that keep the bytes before a place.
 #[inline(always)]
-fn before(place: usize) -> &'static [u8] {
-    &BEFORE[88 - place..][..8 * CHUNKS]
+fn before(place: usize, numbers: usize) -> &'static [u8] {
+    &BEFORE[MOST_WINDOW - place..][..8 * numbers]
 }
 
 #[inline(always)]
 fn eight(bytes: &[u8], at: usize) -> u64 {
     match bytes[at..].first_chunk::<8>() {
         Some(eight) => u64::from_le_bytes(*eight),
+        None => 0,
+    }
+}
+
+#[inline(always)]
+fn sixteen(bytes: &[u8], at: usize) -> u128 {
+    match bytes[at..].first_chunk::<16>() {
+        Some(sixteen) => u128::from_le_bytes(*sixteen),
         None => 0,
     }
 }
@@ -231,6 +381,21 @@ fn total(x: u64) -> u32 {
     weighted(x, ONES)
 }
 
+/// The sum of the bytes.
+#[inline(always)]
+fn long_total(x: u64) -> u32 {
+    let pairs = (x & EVEN) + (x >> 8 & EVEN);
+    (pairs.wrapping_mul(0x0001_0001_0001_0001) >> 48) as u32
+}
+
+/// The sum of the bytes with the weights 1 to 8.
+#[inline(always)]
+fn long_weighted(x: u64) -> u32 {
+    let odd = (x & EVEN).wrapping_mul(WEIGHTS_ODD);
+    let even = (x >> 8 & EVEN).wrapping_mul(WEIGHTS_EVEN);
+    (odd.wrapping_add(even) >> 48) as u32
+}
+
 fn refuse<T>(number: u32) -> Result<T, Refused> {
     Err(Refused { number, place: 0 })
 }
@@ -240,11 +405,11 @@ fn refuse<T>(number: u32) -> Result<T, Refused> {
 fn equal_length(lengths: &[u16], b: u32, message: Option<usize>) -> Result<Option<u16>, Refused> {
     let first = lengths.first().copied().unwrap_or(2);
     let differ = lengths.iter().fold(0, |differ, k| differ | k ^ first);
-    let outside = |k: u16| !(2..=64).contains(&k);
+    let outside = |k: u16| !(2..=256).contains(&k);
     if outside(first) || differ != 0 && lengths.iter().any(|&k| outside(k)) {
         return refuse(1);
     }
-    if !(1..=128).contains(&b) || message.is_some_and(|length| length != b as usize) {
+    if !(1..=512).contains(&b) || message.is_some_and(|length| length != b as usize) {
         return refuse(2);
     }
     if !(1..=64).contains(&lengths.len()) {
@@ -271,18 +436,20 @@ pub fn write(lengths: &[u16], b: u32, message: &[u8], out: &mut [u8]) -> Result<
 
 /// Test 5, and the letters of l segments of equal lengths.
 #[inline(never)]
-fn write_equal<const K: usize, const C: usize>(
+fn write_equal<L: Length, const C: usize>(
+    length: L,
     l: usize,
     message: &[u8],
     out: &mut [u8],
 ) -> Result<usize, Refused> {
-    let length = l * (Shape::<K, C>::BODY + 2) - 2;
-    let Some(mut rest) = out.get_mut(..length) else {
+    let letters = l * (length.body() + 2) - 2;
+    let Some(mut rest) = out.get_mut(..letters) else {
         return refuse(5);
     };
     let mut f = 0;
     for i in 0..l {
-        let part = part_of::<K>(message, i * K, K % 4 == 0);
+        let part = part_of(length, message, i * length.k(), length.k() % 4 == 0);
+        let part = part.as_ref();
         if i > 0 {
             let Some((marker, more)) = rest.split_first_chunk_mut::<2>() else {
                 return refuse(5);
@@ -290,13 +457,13 @@ fn write_equal<const K: usize, const C: usize>(
             *marker = [LETTERS[SEP[(f << 4 | part[0] >> 4) as usize & 63] as usize & 3]; 2];
             rest = more;
         }
-        let Some((body, more)) = rest.split_at_mut_checked(Shape::<K, C>::BODY) else {
+        let Some((body, more)) = rest.split_at_mut_checked(length.body()) else {
             return refuse(5);
         };
         rest = more;
-        f = write_body::<K, C>(&part, body);
+        f = write_body(length, part, body);
     }
-    Ok(length)
+    Ok(letters)
 }
 
 /// Test 5, and the letters of segments that have lengths of their own.
@@ -318,49 +485,53 @@ fn write_mixed(lengths: &[u16], message: &[u8], out: &mut [u8]) -> Result<usize,
 
 /// One segment from the message's symbol at a place on; hands back its last symbol, and the room behind it.
 #[inline(never)]
-fn write_segment<'a, const K: usize, const C: usize>(
+fn write_segment<'a, L: Length, const C: usize>(
+    length: L,
     message: &[u8],
     at: usize,
     f: Option<u8>,
     mut out: &'a mut [u8],
 ) -> (u8, &'a mut [u8]) {
-    let part = part_of::<K>(message, at, K % 4 == 0 && at % 4 == 0);
+    let part = part_of(length, message, at, length.k() % 4 == 0 && at % 4 == 0);
+    let part = part.as_ref();
     if let Some(f) = f {
         let (marker, more) = out.split_at_mut(2);
         marker.fill(LETTERS[SEP[(f << 4 | part[0] >> 4) as usize & 63] as usize & 3]);
         out = more;
     }
-    let (body, rest) = out.split_at_mut(Shape::<K, C>::BODY);
-    (write_body::<K, C>(&part, body), rest)
+    let (body, rest) = out.split_at_mut(length.body());
+    (write_body(length, part, body), rest)
 }
 
 /// The bytes of one segment's message, from the symbol at a place on, spare bits zero; whole ones are copied.
 #[inline(always)]
-fn part_of<const K: usize>(message: &[u8], at: usize, whole: bool) -> [u8; 16] {
-    let bytes = K.div_ceil(4);
+fn part_of<L: Length>(length: L, message: &[u8], at: usize, whole: bool) -> L::Part {
+    let bytes = length.k().div_ceil(4);
     let shift = at % 4 * 2;
     let at = at / 4;
-    let mut part = [0; 16];
+    let mut room = L::Part::ZEROS;
+    let part = &mut room.as_mut()[..bytes];
     if whole {
-        part[..bytes].copy_from_slice(&message[at..at + bytes]);
-        return part;
+        part.copy_from_slice(&message[at..at + bytes]);
+        return room;
     }
     let mut byte = message[at] as u32;
-    for (j, part) in part[..bytes].iter_mut().enumerate() {
+    for (j, part) in part.iter_mut().enumerate() {
         let next = message.get(at + j + 1).copied().unwrap_or(0) as u32;
         *part = ((byte << 8 | next) << shift >> 8) as u8;
         byte = next;
     }
-    part[bytes - 1] &= 0xFF << (2 * (4 * bytes - K));
-    part
+    part[bytes - 1] &= 0xFF << (2 * (4 * bytes - length.k()));
+    room
 }
 
 /// Message, check, separator and syndrome in letters; hands back the last symbol.
 #[inline(always)]
-fn write_body<const K: usize, const C: usize>(part: &[u8; 16], body: &mut [u8]) -> u8 {
+fn write_body<L: Length>(length: L, part: &[u8], body: &mut [u8]) -> u8 {
+    let (k, t) = (length.k(), length.t());
     let (mut sums, mut fours) = (0u64, 0u64);
-    let body = &mut body[..Shape::<K, C>::BODY];
-    for j in (0..K.div_ceil(4)).rev() {
+    let body = &mut body[..length.body()];
+    for j in (0..k.div_ceil(4)).rev() {
         let byte = part[j] as usize;
         fours += sums;
         sums += FOUR_SUMS[byte];
@@ -368,21 +539,26 @@ fn write_body<const K: usize, const C: usize>(part: &[u8; 16], body: &mut [u8]) 
     }
     let high = (sums >> 48) as u32 + 4 * (fours >> 16 & 0xFFFF) as u32;
     let low = (sums >> 32 & 0xFFFF) as u32 + 4 * (fours & 0xFFFF) as u32;
-    let (high, low) = (high % Shape::<K, C>::CYCLE, low % Shape::<K, C>::CYCLE);
-    let highs = BITS[(high & 127) as usize] >> (8 * Shape::<K, C>::NARROW);
-    let lows = BITS[(low & 127) as usize] >> (8 * Shape::<K, C>::NARROW);
+    let (high, low) = (length.remainder(high), length.remainder(low));
+    let highs = BITS[(high & 255) as usize] >> length.narrow();
+    let lows = BITS[(low & 255) as usize] >> length.narrow();
     let check = (2 * (sums >> 16) + sums) as usize & 3;
-    let a = highs << 1 | lows;
-    let letters = 0x41 * ONES + a + lows * 0x12 - (highs & lows) * 0x0F;
+    let last = highs << 1 | lows;
+    let a = behind_first(length, last, [low, high]);
+    let letters = 0x41 * ONES + last + lows * 0x12 - (highs & lows) * 0x0F;
     let front = check << 4 | (a << 2) as usize & 12 | (a >> 8) as usize & 3;
-    body[K..K + 4].copy_from_slice(&CHECK_SEP[front]);
-    body[K + 4..].copy_from_slice(&letters.to_le_bytes()[..Shape::<K, C>::T]);
+    body[k..k + 4].copy_from_slice(&CHECK_SEP[front]);
+    if t > 8 {
+        body[k + 4] = LETTERS[a as usize & 3];
+    }
+    let eight = t.min(8);
+    body[k + 4 + t - eight..].copy_from_slice(&letters.to_le_bytes()[..eight]);
     (2 * (high & 1) + (low & 1)) as u8
 }
 
-/// A received strand in symbols, N taken as A; past its end stands PAST.
-struct Strand {
-    symbols: [u8; 2048],
+/// A received strand of at most R symbols, N taken as A; past its end stands PAST.
+struct Strand<const R: usize> {
+    symbols: [u8; R],
     length: usize,
 }
 
@@ -397,10 +573,7 @@ fn symbols_of(letters: &[u8; 8], foreign: &mut u64) -> [u8; 8] {
     (x & 2 * ONES | low & ONES).to_le_bytes()
 }
 
-/// A bit for each place of a strand, the first one lowest; the last 16 bytes are there for a load at its end.
-type Places = [u8; 256 + 16];
-
-impl Strand {
+impl<const R: usize> Strand<R> {
     /// Eight letters at once, the last eight counted from the end; hands back whether all are A, T, C or G.
     #[inline(always)]
     fn fill(&mut self, letters: &[u8]) -> bool {
@@ -422,10 +595,10 @@ impl Strand {
         foreign == 0
     }
 
-    /// Makes each N an A, and hands back where it stands; no letter is foreign.
+    /// Makes each N an A, and hands back where it stands: a bit for each place, the first one lowest. No letter is foreign.
     #[inline(always)]
-    fn unknown_as_a(&mut self, letters: &[u8]) -> Places {
-        let mut places = [0; 256 + 16];
+    fn unknown_as_a<const P: usize>(&mut self, letters: &[u8]) -> [u8; P] {
+        let mut places = [0; P];
         let mut note = |place: usize| {
             self.symbols[place] = 0;
             places[place / 8] |= 1 << (place % 8);
@@ -446,22 +619,6 @@ impl Strand {
         }
         places
     }
-
-    /// The symbols from a place on, where the array holds enough of them.
-    #[inline(always)]
-    fn window(&self, p: usize) -> Option<&[u8; WINDOW]> {
-        self.symbols.get(p..)?.first_chunk()
-    }
-
-    /// The same at the array's end, PAST behind it.
-    #[cold]
-    fn last_window(&self, p: usize) -> [u8; WINDOW] {
-        let rest = self.symbols.get(p..).unwrap_or(&[]);
-        let mut window = [PAST; WINDOW];
-        let count = rest.len().min(WINDOW);
-        window[..count].copy_from_slice(&rest[..count]);
-        window
-    }
 }
 
 /// Whether a byte is one of the five letters; no comparison is skipped, so that many bytes are tested at once.
@@ -480,14 +637,34 @@ fn first_foreign(letters: &[u8]) -> Refused {
 }
 
 /// A strand as it is read.
-trait Received: Copy + Deref<Target = Strand> {
+trait Received: Copy {
+    fn symbols(&self) -> &[u8];
+
+    fn length(self) -> usize;
+
     /// Whether an N stands in a segment, from its start to its end.
-    fn unknown_in(self, start: usize, end: usize) -> bool;
+    fn unknown_in<L: Length>(self, start: usize, end: usize) -> bool;
+
+    /// The window of a segment at a place, where the array holds it.
+    #[inline(always)]
+    fn window<L: Length>(&self, p: usize) -> Option<&[u8]> {
+        self.symbols().get(p..)?.get(..L::WINDOW)
+    }
+
+    /// The same at the array's end, PAST behind it.
+    #[cold]
+    fn last_window(self, p: usize) -> [u8; MOST_WINDOW] {
+        let rest = self.symbols().get(p..).unwrap_or(&[]);
+        let mut window = [PAST; MOST_WINDOW];
+        let count = rest.len().min(MOST_WINDOW);
+        window[..count].copy_from_slice(&rest[..count]);
+        window
+    }
 
     /// The verdict on a segment that is read at p.
     #[inline(always)]
-    fn verdict<const C: usize>(self, p: usize, segment: &Segment<C>) -> Verdict {
-        if self.unknown_in(p, segment.end) && segment.edit == Edit::None {
+    fn verdict<L: Length>(self, p: usize, segment: &Segment) -> Verdict {
+        if self.unknown_in::<L>(p, segment.end) && segment.edit == Edit::None {
             Verdict::Unknown
         } else {
             Verdict::Read(segment.edit)
@@ -496,40 +673,69 @@ trait Received: Copy + Deref<Target = Strand> {
 }
 
 /// A strand without an N.
-impl Received for &Strand {
+impl<const R: usize> Received for &Strand<R> {
     #[inline(always)]
-    fn unknown_in(self, _: usize, _: usize) -> bool {
+    fn symbols(&self) -> &[u8] {
+        &self.symbols
+    }
+
+    #[inline(always)]
+    fn length(self) -> usize {
+        self.length
+    }
+
+    #[inline(always)]
+    fn unknown_in<L: Length>(self, _: usize, _: usize) -> bool {
         false
     }
 }
 
 /// A strand with an N in these places.
 #[derive(Clone, Copy)]
-struct WithUnknown<'a> {
-    strand: &'a Strand,
-    places: &'a Places,
+struct WithUnknown<'a, const R: usize, const P: usize> {
+    strand: &'a Strand<R>,
+    places: &'a [u8; P],
 }
 
-impl Deref for WithUnknown<'_> {
-    type Target = Strand;
+impl<const R: usize, const P: usize> Received for WithUnknown<'_, R, P> {
+    #[inline(always)]
+    fn symbols(&self) -> &[u8] {
+        &self.strand.symbols
+    }
 
     #[inline(always)]
-    fn deref(&self) -> &Strand {
-        self.strand
+    fn length(self) -> usize {
+        self.strand.length
+    }
+
+    #[inline(always)]
+    fn unknown_in<L: Length>(self, start: usize, end: usize) -> bool {
+        let bits = &self.places[start / 8..];
+        if L::SHORT {
+            return sixteen(bits, 0) >> (start % 8) << (128 - (end - start)) != 0;
+        }
+        // A segment has at most 272 letters, and seven bits may stand before them.
+        let first = u64::MAX << (start % 8);
+        let count = start % 8 + end - start;
+        let mut unknown = eight(bits, 0) & first & ones_below(count);
+        for c in 1..5 {
+            unknown |= eight(bits, 8 * c) & ones_below(count.saturating_sub(64 * c));
+        }
+        unknown != 0
     }
 }
 
-impl Received for WithUnknown<'_> {
-    #[inline(always)]
-    fn unknown_in(self, start: usize, end: usize) -> bool {
-        let Some(bits) = self.places[start / 8..].first_chunk() else {
-            return false;
-        };
-        u128::from_le_bytes(*bits) >> (start % 8) << (128 - (end - start)) != 0
+/// So many ones from the lowest bit on, at most 64.
+#[inline(always)]
+fn ones_below(count: usize) -> u64 {
+    if count < 64 {
+        (1 << count) - 1
+    } else {
+        u64::MAX
     }
 }
 
-/// The sum of the places, from 1, that hold a one in a layer.
+/// The sum of the places, from 1, that hold a one in a layer of at most 64.
 #[inline(always)]
 fn places<const C: usize>(x: &[u64; C], layer: u32) -> u32 {
     if C == 1 {
@@ -561,16 +767,79 @@ fn places<const C: usize>(x: &[u64; C], layer: u32) -> u32 {
     }
 }
 
-/// The number of ones in a layer.
+/// The sums of the places of both layers, low and high, and the sum of the symbols.
 #[inline(always)]
-fn ones<const C: usize>(x: &[u64; C], layer: u32) -> u32 {
-    total(x.iter().map(|x| x >> layer & ONES).sum())
+fn long_sums<const C: usize>(x: &[u64; C], numbers: usize) -> ([u32; 2], u32) {
+    let (pairs, _) = x[..numbers.next_multiple_of(2).min(C)].as_chunks::<2>();
+    let (mut low, mut high) = (Lanes::new(), Lanes::new());
+    for (c, pair) in pairs.iter().enumerate().rev() {
+        low.add(pair[0] & ONES, pair[1] & ONES, c > 0);
+        high.add(pair[0] >> 1 & ONES, pair[1] >> 1 & ONES, c > 0);
+    }
+    let sum = 2 * high.ones() + low.ones();
+    ([low.places(), high.places()], sum)
 }
 
-/// The sum of the symbols.
+/// The ones of a layer in each byte, of even and of odd numbers, and the steps of two numbers that lead to them.
+/// A byte of the ones is at most 16 and one of the steps at most 120, so that even and odd ones add up in a byte.
+struct Lanes {
+    ones: [u64; 2],
+    steps: [u64; 2],
+}
+
+impl Lanes {
+    #[inline(always)]
+    fn new() -> Lanes {
+        Lanes {
+            ones: [0; 2],
+            steps: [0; 2],
+        }
+    }
+
+    /// Two numbers more, the last ones first.
+    #[inline(always)]
+    fn add(&mut self, even: u64, odd: u64, step: bool) {
+        self.ones[0] += even;
+        self.ones[1] += odd;
+        if step {
+            self.steps[0] += self.ones[0];
+            self.steps[1] += self.ones[1];
+        }
+    }
+
+    #[inline(always)]
+    fn ones(&self) -> u32 {
+        long_total(self.ones[0] + self.ones[1])
+    }
+
+    /// The sum of the places, from 1.
+    #[inline(always)]
+    fn places(&self) -> u32 {
+        let steps = 2 * long_total(self.steps[0] + self.steps[1]) + long_total(self.ones[1]);
+        8 * steps + long_weighted(self.ones[0] + self.ones[1])
+    }
+}
+
+/// The number of ones in a layer; a byte of 32 numbers is at most 32.
 #[inline(always)]
-fn symbol_sum<const C: usize>(x: &[u64; C]) -> u32 {
-    total(x.iter().sum())
+fn ones<L: Length, const C: usize>(x: &[u64; C], layer: u32) -> u32 {
+    let lanes = x.iter().map(|x| x >> layer & ONES).sum();
+    if L::SHORT {
+        total(lanes)
+    } else {
+        long_total(lanes)
+    }
+}
+
+/// The sum of the symbols; a byte of 32 numbers is at most 128, where all are PAST.
+#[inline(always)]
+fn symbol_sum<L: Length, const C: usize>(x: &[u64; C]) -> u32 {
+    let lanes = x.iter().sum();
+    if L::SHORT {
+        total(lanes)
+    } else {
+        long_total(lanes)
+    }
 }
 
 /// What is written behind a message.
@@ -579,14 +848,14 @@ struct Tail {
     /// Check and separator, first byte first.
     front: u32,
     /// The t syndrome symbols, first byte first.
-    a: u64,
+    a: u128,
     /// The syndromes of the layers, low and high.
     syndromes: [u32; 2],
 }
 
 impl Tail {
     #[inline(always)]
-    fn new(sum: u32, a: u64, syndromes: [u32; 2]) -> Tail {
+    fn new(sum: u32, a: u128, syndromes: [u32; 2]) -> Tail {
         let index = (sum & 3) << 4 | (a << 2) as u32 & 12 | (a >> 8) as u32 & 3;
         Tail {
             front: CHECK_SEP_SYMBOLS[index as usize],
@@ -596,11 +865,17 @@ impl Tail {
     }
 
     #[inline(always)]
-    fn of<const K: usize, const C: usize>(x: &[u64; C]) -> Tail {
-        let low = places(x, 0) % Shape::<K, C>::CYCLE & 127;
-        let high = places(x, 1) % Shape::<K, C>::CYCLE & 127;
-        let a = (BITS[high as usize] << 1 | BITS[low as usize]) >> (8 * Shape::<K, C>::NARROW);
-        Tail::new(symbol_sum(x), a, [low, high])
+    fn of<L: Length, const C: usize>(length: L, x: &[u64; C]) -> Tail {
+        let (sums, sum) = if L::SHORT {
+            ([places(x, 0), places(x, 1)], symbol_sum::<L, C>(x))
+        } else {
+            long_sums(x, length.numbers::<C>())
+        };
+        let [low, high] = sums.map(|sum| length.remainder(sum));
+        let (highs, lows) = (BITS[(high & 255) as usize], BITS[(low & 255) as usize]);
+        let last = (highs << 1 | lows) >> length.narrow();
+        let a = behind_first(length, last, [low, high]);
+        Tail::new(sum, a, [low, high])
     }
 
     #[inline(always)]
@@ -610,29 +885,46 @@ impl Tail {
 
     /// The last syndrome symbol.
     #[inline(always)]
-    fn last<const K: usize, const C: usize>(&self) -> u8 {
-        (self.a >> (8 * (Shape::<K, C>::T - 1))) as u8 & 3
+    fn last(&self, length: impl Length) -> u8 {
+        (self.a >> (8 * (length.t() - 1))) as u8 & 3
+    }
+
+    /// All of it, first byte first.
+    #[inline(always)]
+    fn written(&self) -> u128 {
+        self.front as u128 | self.a << 32
     }
 
     /// Whether it stands at the front of the bytes.
     #[inline(always)]
-    fn stands<const K: usize, const C: usize>(&self, bytes: &[u8; 16]) -> bool {
-        let written = self.front as u128 | (self.a as u128) << 32;
-        let other = written ^ u128::from_le_bytes(*bytes);
-        other << (8 * (12 - Shape::<K, C>::T)) == 0
+    fn stands(&self, length: impl Length, bytes: &[u8; 16]) -> bool {
+        let other = self.written() ^ u128::from_le_bytes(*bytes);
+        other << (8 * (12 - length.t())) == 0
     }
 }
 
 /// The k symbols from a place on.
 #[inline(always)]
-fn message_at<const K: usize, const C: usize>(bytes: &[u8], at: usize) -> [u64; C] {
-    let bytes = &bytes[at..at + 8 * C];
+fn message_at<const C: usize>(length: impl Length, bytes: &[u8], at: usize) -> [u64; C] {
+    let numbers = length.numbers::<C>();
+    let bytes = &bytes[at..at + 8 * numbers];
     let mut x = [0; C];
-    for c in 0..C {
+    for c in 0..numbers {
         x[c] = eight(bytes, 8 * c);
     }
-    x[C - 1] &= Shape::<K, C>::KEEP;
+    x[numbers - 1] &= length.keep();
     x
+}
+
+/// The t symbols from a place on.
+#[inline(always)]
+fn syndrome_at<L: Length>(length: L, bytes: &[u8], at: usize) -> u128 {
+    let symbols = if L::SHORT {
+        eight(bytes, at) as u128
+    } else {
+        sixteen(bytes, at)
+    };
+    symbols & length.keep_t()
 }
 
 /// Three equal symbols, none of them past the end.
@@ -648,11 +940,11 @@ fn marker(f: u8, first_symbols: u64) -> u8 {
     SEP[(f << 4 | one << 2 | two) as usize & 63]
 }
 
-/// The place behind the first so many ones of a layer.
+/// The place behind the first so many ones of a layer of at most 64.
 #[inline(always)]
-fn place_behind<const C: usize>(bits: &[u64; C], ones: u32) -> usize {
+fn short_place_behind(bits: &[u64], ones: u32) -> usize {
     let mut before = 0;
-    let mut places = 8 * C as u32;
+    let mut places = 8 * bits.len() as u32;
     for &bits in bits {
         let sums = bits.wrapping_mul(ONES);
         let lanes = (sums << 8) + before * ONES;
@@ -660,6 +952,24 @@ fn place_behind<const C: usize>(bits: &[u64; C], ones: u32) -> usize {
         before += sums >> 56;
     }
     places as usize
+}
+
+/// The place behind the first so many ones of a layer; a longer one is sought through by blocks of 64.
+#[inline(always)]
+fn place_behind<L: Length>(bits: &[u64], mut ones: u32) -> usize {
+    if L::SHORT {
+        return short_place_behind(bits, ones);
+    }
+    let mut place = 0;
+    for block in bits.chunks(8) {
+        let more = total(block.iter().sum());
+        if ones <= more {
+            return place + short_place_behind(block, ones);
+        }
+        ones -= more;
+        place += 8 * block.len();
+    }
+    place
 }
 
 /// A layer in need of repair.
@@ -715,14 +1025,15 @@ fn repair_changed<const C: usize>(k: u32, x: &mut [u64; C], layer: &Layer) -> bo
 
 /// Step 7 for a layer with one bit more: the place of the bit that has to go.
 #[inline(always)]
-fn place_of_more<const C: usize>(
-    k: u32,
-    body: &[u8; BODY],
+fn place_of_more<L: Length, const C: usize>(
+    length: L,
+    body: &[u8],
     x: &[u64; C],
     layer: &Layer,
 ) -> Option<usize> {
-    let extra = (body[k as usize] >> layer.shift & 1) as u32;
-    let read_ones = ones(x, layer.shift);
+    let k = length.k() as u32;
+    let extra = (body[length.k()] >> layer.shift & 1) as u32;
+    let read_ones = ones::<L, C>(x, layer.shift);
     let ones = read_ones + extra;
     let surplus = less(layer.read, less(layer.written, (k + 1) * extra, k), k);
     if surplus > k + 1 {
@@ -740,16 +1051,22 @@ fn place_of_more<const C: usize>(
     if count > most {
         return None;
     }
-    let place = place_behind(&layer_bits(x, layer.shift, !zero_goes), count);
-    let bit = body[place.min(BODY - 1)] >> layer.shift & 1;
+    let place = place_behind::<L>(&layer_bits(x, layer.shift, !zero_goes), count);
+    let bit = body[place.min(body.len() - 1)] >> layer.shift & 1;
     (bit == !zero_goes as u8).then_some(place)
 }
 
 /// Step 7 for a layer with one bit less: where a bit has to come in, and which.
 #[inline(always)]
-fn place_of_less<const C: usize>(k: u32, x: &[u64; C], layer: &Layer) -> Option<(usize, u64)> {
-    let extra = (x[C - 1] >> ((k - 1) % 8 * 8 + layer.shift) & 1) as u32;
-    let ones = ones(x, layer.shift) - extra;
+fn place_of_less<L: Length, const C: usize>(
+    length: L,
+    x: &[u64; C],
+    layer: &Layer,
+) -> Option<(usize, u64)> {
+    let k = length.k() as u32;
+    let last = x[length.numbers::<C>() - 1];
+    let extra = (last >> ((k - 1) % 8 * 8 + layer.shift) & 1) as u32;
+    let ones = ones::<L, C>(x, layer.shift) - extra;
     let more = less(layer.written, less(layer.read, k * extra, k), k);
     if more > k {
         return None;
@@ -760,14 +1077,14 @@ fn place_of_less<const C: usize>(k: u32, x: &[u64; C], layer: &Layer) -> Option<
     } else {
         more - ones - 1
     };
-    let place = place_behind(&layer_bits(x, layer.shift, !zero_comes), count);
+    let place = place_behind::<L>(&layer_bits(x, layer.shift, !zero_comes), count);
     Some((place, !zero_comes as u64))
 }
 
 /// Takes the one bits of a layer before a place, the other ones from there on.
 #[inline(always)]
 fn joined<const C: usize>(one: &[u64; C], other: &[u64; C], high: usize, low: usize) -> [u64; C] {
-    let (high, low) = (before(high), before(low));
+    let (high, low) = (before(high, C), before(low, C));
     let mut x = [0; C];
     for c in 0..C {
         let keep = eight(high, 8 * c) & (2 * ONES) | eight(low, 8 * c) & ONES;
@@ -779,8 +1096,8 @@ fn joined<const C: usize>(one: &[u64; C], other: &[u64; C], high: usize, low: us
 /// Step 7: both layers, apart, from the syndromes read and written.
 #[inline(always)]
 fn repaired<const C: usize>(
-    k: u32,
-    body: &[u8; BODY],
+    length: impl Length,
+    body: &[u8],
     j: isize,
     x: &mut [u64; C],
     read: [u32; 2],
@@ -791,26 +1108,22 @@ fn repaired<const C: usize>(
         read: read[i],
         written: written[i],
     });
-    let keep = u64::MAX >> (8 * (8 * C as u32 - k) & 63);
     if j == 0 {
+        let k = length.k() as u32;
         return repair_changed(k, x, &high) && repair_changed(k, x, &low);
     }
     if j == 1 {
-        let high = place_of_more(k, body, x, &high);
-        let low = place_of_more(k, body, x, &low);
+        let high = place_of_more(length, body, x, &high);
+        let low = place_of_more(length, body, x, &low);
         let (Some(high), Some(low)) = (high, low) else {
             return false;
         };
-        let mut moved = [0; C];
-        for c in 0..C {
-            moved[c] = eight(body, 8 * c + 1);
-        }
-        moved[C - 1] &= keep;
+        let moved = message_at(length, body, 1);
         *x = joined(x, &moved, high, low);
         return true;
     }
-    let high = place_of_less(k, x, &high);
-    let low = place_of_less(k, x, &low);
+    let high = place_of_less(length, x, &high);
+    let low = place_of_less(length, x, &low);
     let (Some((high, high_bit)), Some((low, low_bit))) = (high, low) else {
         return false;
     };
@@ -818,7 +1131,9 @@ fn repaired<const C: usize>(
     for c in 0..C {
         moved[c] = x[c] << 8 | if c > 0 { x[c - 1] >> 56 } else { 0 };
     }
-    moved[C - 1] &= keep;
+    let numbers = length.numbers::<C>();
+    moved[numbers - 1] &= length.keep();
+    moved[numbers..].fill(0);
     *x = joined(x, &moved, high, low);
     for (place, bit, shift) in [(high, high_bit, 1), (low, low_bit, 0)] {
         if let Some(x) = x.get_mut(place / 8) {
@@ -857,37 +1172,40 @@ fn behind_other(x: &[u64]) -> usize {
 
 /// Step 9: the edit that leads from the written segment to the piece.
 #[inline(always)]
-fn edit_between<const C: usize>(
-    k: usize,
-    length_of_body: usize,
-    w: &[u8; WINDOW],
+fn edit_between<L: Length, const C: usize>(
+    of: L,
+    w: &[u8],
     m: Option<u8>,
     x: &[u64; C],
     tail: &Tail,
     length: usize,
 ) -> Option<Edit> {
     let head = if m.is_some() { 2 } else { 0 };
-    let n = head + length_of_body;
+    let n = head + of.body();
     if length + 1 < n || length > n + 1 {
         return None;
     }
     // The written segment behind its marker.
-    let mut written = [0u64; CHUNKS + 1];
-    written[..C].copy_from_slice(x);
-    let behind = tail.front as u128 | (tail.a as u128) << 32;
-    let room = 8 * (8 * C - k) as u32;
+    let mut numbers = L::Numbers::ZEROS;
+    let written = numbers.as_mut();
+    let count = of.numbers::<C>();
+    written[..count].copy_from_slice(&x[..count]);
+    let behind = tail.written();
+    let room = 8 * (8 * count - of.k()) as u32;
     if room > 0 {
-        written[C - 1] |= (behind << (64 - room)) as u64;
+        written[count - 1] |= (behind << (64 - room)) as u64;
     }
-    written[C] = (behind >> room) as u64;
-    written[C + 1] = (behind >> room >> 64) as u64;
-    let body = &w[head..head + BODY];
+    written[count] = (behind >> room) as u64;
+    written[count + 1] = (behind >> room >> 64) as u64;
+    let count = count + 2;
+    let body = &w[head..head + L::WINDOW - 2];
     let m = m.unwrap_or(0);
     let differs = |at: usize, symbol: u8| head > 0 && w[at] != symbol;
     // The places before the first difference agree.
-    let mut others = [0u64; CHUNKS];
-    let keep = before(length.min(n) - head);
-    for c in 0..C + 2 {
+    let mut room = L::Numbers::ZEROS;
+    let others = &mut room.as_mut()[..count];
+    let keep = before(length.min(n) - head, count);
+    for c in 0..count {
         others[c] = (written[c] ^ eight(body, 8 * c)) & eight(keep, 8 * c);
     }
     let agree = if differs(0, m) {
@@ -895,10 +1213,10 @@ fn edit_between<const C: usize>(
     } else if differs(1, m) {
         1
     } else {
-        head + first_other(&others[..C + 2])
+        head + first_other(others)
     };
     if length == n {
-        let place = match behind_other(&others[..C + 2]) {
+        let place = match behind_other(others) {
             0 if differs(1, m) => 1,
             0 if differs(0, m) => 0,
             0 => return Some(Edit::None),
@@ -909,11 +1227,11 @@ fn edit_between<const C: usize>(
     }
     if length < n {
         // Behind the place the written symbols stand one further.
-        for c in 0..C + 2 {
+        for c in 0..count {
             let moved = written[c] >> 8 | written[c + 1] << 56;
             others[c] = (moved ^ eight(body, 8 * c)) & eight(keep, 8 * c);
         }
-        let place = match behind_other(&others[..C + 2]) {
+        let place = match behind_other(others) {
             0 if differs(1, x[0] as u8) => 2,
             0 if differs(0, m) => 1,
             0 => 0,
@@ -929,10 +1247,10 @@ fn edit_between<const C: usize>(
         return Some(Edit::Del { place, symbol });
     }
     // Behind the place the received symbols stand one further.
-    for c in 0..C + 2 {
+    for c in 0..count {
         others[c] = (written[c] ^ eight(body, 8 * c + 1)) & eight(keep, 8 * c);
     }
-    let place = match behind_other(&others[..C + 2]) {
+    let place = match behind_other(others) {
         0 if differs(2, m) => 2,
         0 if differs(1, m) => 1,
         0 => 0,
@@ -944,28 +1262,29 @@ fn edit_between<const C: usize>(
 
 /// Whether a clean segment with a marker starts at p; one with an N is not clean.
 #[inline(never)]
-fn clean_at<const K: usize, const C: usize>(strand: impl Received, p: usize, f: u8) -> bool {
-    if p + Shape::<K, C>::BODY + 2 > strand.length {
+fn clean_at<L: Length, const C: usize>(length: L, strand: impl Received, p: usize, f: u8) -> bool {
+    let n = length.body() + 2;
+    if p + n > strand.length() {
         return false;
     }
     let spare;
-    let w = match strand.window(p) {
+    let w = match strand.window::<L>(p) {
         Some(w) => w,
         None => {
             spare = strand.last_window(p);
-            &spare
+            &spare[..L::WINDOW]
         }
     };
     let m = marker(f, eight(w, 2));
     if w[0] != m || w[1] != m {
         return false;
     }
-    let Some(near) = w[K + 2..].first_chunk::<16>() else {
+    let Some(near) = w[length.k() + 2..].first_chunk::<16>() else {
         return false;
     };
-    let x = message_at::<K, C>(w, 2);
-    let stands = Tail::of::<K, C>(&x).stands::<K, C>(near);
-    stands && !strand.unknown_in(p, p + Shape::<K, C>::BODY + 2)
+    let x = message_at::<C>(length, w, 2);
+    let stands = Tail::of(length, &x).stands(length, near);
+    stands && !strand.unknown_in::<L>(p, p + n)
 }
 
 /// The segment after one that is read.
@@ -974,12 +1293,12 @@ trait Next {
 }
 
 /// It has the same length.
-struct Same<const K: usize, const C: usize>;
+struct Same<L: Length, const C: usize>(L);
 
-impl<const K: usize, const C: usize> Next for Same<K, C> {
+impl<L: Length, const C: usize> Next for Same<L, C> {
     #[inline(always)]
     fn clean_at(&self, strand: impl Received, p: usize, f: u8) -> bool {
-        clean_at::<K, C>(strand, p, f)
+        clean_at::<L, C>(self.0, strand, p, f)
     }
 }
 
@@ -1001,23 +1320,25 @@ fn end_by_next(strand: impl Received, own: usize, f: u8, next: &impl Next) -> Op
         .find(|&end| next.clean_at(strand, end, f))
 }
 
-/// Step 10 in one window: the start of the next clean segment, which has K symbols.
+/// Step 10 in one window: the start of the next clean segment, which has the length given.
 #[inline(never)]
-fn scan<const K: usize, const C: usize>(
+fn scan<L: Length, const C: usize>(
+    length: L,
     strand: impl Received,
     p: usize,
     own: usize,
 ) -> Option<usize> {
+    let k = length.k();
     // A start needs two equal symbols for its marker and three for its separator.
     let mut starts = u32::MAX;
-    if let Some(near) = strand.symbols.get(own - 8..own + K + 24) {
+    if let Some(near) = strand.symbols().get(own - 8..own + k + 24) {
         starts = 0;
         for c in 0..3 {
             let at = 8 * c;
             let (s1, s2, s3) = (
-                eight(near, at + K + 3),
-                eight(near, at + K + 4),
-                eight(near, at + K + 5),
+                eight(near, at + k + 3),
+                eight(near, at + k + 4),
+                eight(near, at + k + 5),
             );
             let other = eight(near, at) ^ eight(near, at + 1) | s1 ^ s2 | s2 ^ s3;
             let equal = !(other + 0x7F * ONES) >> 7 & ONES;
@@ -1028,8 +1349,8 @@ fn scan<const K: usize, const C: usize>(
         let start = (own as isize + d) as usize;
         if starts >> (8 + d) & 1 == 1
             && start > p
-            && start <= strand.length
-            && clean_at::<K, C>(strand, start, strand.symbols[start - 1])
+            && start <= strand.length()
+            && clean_at::<L, C>(length, strand, start, strand.symbols()[start - 1])
         {
             return Some(start);
         }
@@ -1037,9 +1358,8 @@ fn scan<const K: usize, const C: usize>(
     None
 }
 
-/// A segment as read.
-struct Segment<const C: usize> {
-    message: [u64; C],
+/// A segment as read, but for its message.
+struct Segment {
     end: usize,
     /// The last syndrome symbol of the message.
     f: u8,
@@ -1048,57 +1368,57 @@ struct Segment<const C: usize> {
 
 /// Steps 1 to 9 at once, where marker, message, check, separator and syndrome stand as written.
 #[inline(always)]
-fn clean_segment_at<const K: usize, const C: usize>(
-    strand: &Strand,
+fn clean_segment_at<L: Length, const C: usize>(
+    length: L,
+    strand: impl Received,
     p: usize,
     f: Option<u8>,
     last: bool,
-) -> Option<Segment<C>> {
-    let w = strand.window(p)?;
+    message: &mut [u64; C],
+) -> Option<Segment> {
+    let w = strand.window::<L>(p)?;
     let head = if f.is_some() { 2 } else { 0 };
-    let message = message_at::<K, C>(w, head);
-    let tail = Tail::of::<K, C>(&message);
-    let end = p + head + Shape::<K, C>::BODY;
+    *message = message_at(length, w, head);
+    let tail = Tail::of(length, message);
+    let end = p + head + length.body();
     let whole = match f {
         Some(f) => u16::from_le_bytes([w[0], w[1]]) == marker(f, message[0]) as u16 * 0x0101,
         None => true,
     };
-    let near = w[head + K..].first_chunk()?;
-    let clean = whole && tail.stands::<K, C>(near) && (!last || end == strand.length);
+    let near = w[head + length.k()..].first_chunk()?;
+    let clean = whole && tail.stands(length, near) && (!last || end == strand.length());
     clean.then_some(Segment {
-        message,
         end,
-        f: tail.last::<K, C>(),
+        f: tail.last(length),
         edit: Edit::None,
     })
 }
 
 /// Steps 1 to 9 for the segment at p, or the step that loses it; the first segment has no f.
 #[inline(never)]
-fn segment_at<const K: usize, const C: usize>(
-    received: impl Received,
+fn segment_at<L: Length, const C: usize>(
+    length: L,
+    strand: impl Received,
     p: usize,
     f: Option<u8>,
     last: bool,
     next: impl Next,
-) -> Result<Segment<C>, u32> {
-    let strand: &Strand = &received;
+    message: &mut [u64; C],
+) -> Result<Segment, u32> {
     let spare;
-    let w = match strand.window(p) {
+    let w = match strand.window::<L>(p) {
         Some(w) => w,
         None => {
             spare = strand.last_window(p);
-            &spare
+            &spare[..L::WINDOW]
         }
     };
     let head = if f.is_some() { 2 } else { 0 };
-    let Some(body) = w[head..].first_chunk::<BODY>() else {
-        return Err(3);
-    };
+    let body = &w[head..head + L::WINDOW - 2];
     // Step 1.
     let whole = head == 0 || w[0] == w[1] && w[0] != PAST;
     // Step 2.
-    let near = eight(body, K);
+    let near = eight(body, length.k());
     let j = if three_equal(near >> 8) {
         Some(0)
     } else if three_equal(near) {
@@ -1114,11 +1434,11 @@ fn segment_at<const K: usize, const C: usize>(
         Some(j) if !whole => j,
         _ => 0,
     };
-    let mut message = message_at::<K, C>(w, (head as isize + moved) as usize & 3);
-    let mut tail = Tail::of::<K, C>(&message);
+    *message = message_at(length, w, (head as isize + moved) as usize & 3);
+    let mut tail = Tail::of(length, message);
     // The t symbols after the separator.
-    let at = (K as isize + 4 + j.unwrap_or(0)) as usize;
-    let a = eight(body, at) & Shape::<K, C>::KEEP_T;
+    let at = (length.k() as isize + 4 + j.unwrap_or(0)) as usize;
+    let a = syndrome_at(length, body, at);
     let mut agrees = j.is_some() && a == tail.a;
     if whole {
         let check_agrees = near as u8 == tail.check();
@@ -1129,13 +1449,13 @@ fn segment_at<const K: usize, const C: usize>(
             Some(_) if agrees => {}
             // Step 7.
             Some(j) => {
-                let Some(written) = syndromes_of::<K, C>(a) else {
+                let Some(written) = syndromes_of(length, a) else {
                     return Err(7);
                 };
-                if !repaired(K as u32, body, j, &mut message, tail.syndromes, written) {
+                if !repaired(length, body, j, message, tail.syndromes, written) {
                     return Err(7);
                 }
-                tail = Tail::new(symbol_sum(&message), a, written);
+                tail = Tail::new(symbol_sum::<L, C>(message), a, written);
                 agrees = true;
             }
             // Step 6.
@@ -1144,23 +1464,22 @@ fn segment_at<const K: usize, const C: usize>(
         }
     }
     // Step 8.
-    let own = p + head + Shape::<K, C>::BODY;
-    let f_next = tail.last::<K, C>();
+    let own = p + head + length.body();
+    let f_next = tail.last(length);
     let end = if last {
-        strand.length
+        strand.length()
     } else if agrees {
         (own as isize + j.unwrap_or(0)) as usize
     } else {
-        match end_by_next(received, own, f_next, &next) {
+        match end_by_next(strand, own, f_next, &next) {
             Some(end) => end,
             None => return Err(8),
         }
     };
     // Step 9.
     let m = f.map(|f| marker(f, message[0]));
-    match edit_between(K, Shape::<K, C>::BODY, w, m, &message, &tail, end - p) {
+    match edit_between(length, w, m, message, &tail, end - p) {
         Some(edit) => Ok(Segment {
-            message,
             end,
             f: f_next,
             edit,
@@ -1171,13 +1490,18 @@ fn segment_at<const K: usize, const C: usize>(
 
 /// The layers' syndromes that were received, if they are in the strand and below 2k.
 #[inline(always)]
-fn syndromes_of<const K: usize, const C: usize>(a: u64) -> Option<[u32; 2]> {
-    // Byte i of a layer goes to bit 6-i.
-    const GATHER: u64 = 1 << 62 | 1 << 53 | 1 << 44 | 1 << 35 | 1 << 26 | 1 << 17 | 1 << 8;
-    let value = |bits: u64| (weighted(bits & ONES, GATHER) & 127) >> Shape::<K, C>::NARROW;
+fn syndromes_of(length: impl Length, a: u128) -> Option<[u32; 2]> {
+    // Byte i of a layer goes to bit 7-i.
+    const GATHER: u64 = 0x8040_2010_0804_0201;
+    let gathered = |bits: u128| weighted(bits as u64 & ONES, GATHER);
+    let value = |bits: u128| match length.t() {
+        t @ 0..=8 => gathered(bits) >> (8 - t),
+        _ => (bits as u32 & 1) << 8 | gathered(bits >> 8),
+    };
     let (low, high) = (value(a), value(a >> 1));
-    let inside = a & (PAST as u64 * ONES) == 0;
-    let known = low < Shape::<K, C>::CYCLE && high < Shape::<K, C>::CYCLE;
+    let past = PAST as u64 * ONES;
+    let inside = a & (past as u128 | (past as u128) << 64) == 0;
+    let known = low < length.cycle() && high < length.cycle();
     (inside && known).then_some([low, high])
 }
 
@@ -1203,21 +1527,29 @@ impl<'a> Packer<'a> {
 
     /// Whole bytes are put in at once, where none is begun.
     #[inline(always)]
-    fn put<const K: usize, const C: usize>(&mut self, x: &[u64; C], whole: bool) {
+    fn put<L: Length, const C: usize>(&mut self, length: L, x: &[u64; C], whole: bool) {
+        let (k, numbers) = (length.k(), length.numbers::<C>());
         if whole {
-            if let Some(part) = self.message.get_mut(self.at..self.at + K / 4) {
-                for c in 0..K / 8 {
-                    part[2 * c..2 * c + 2].copy_from_slice(&packed(x[c]).to_be_bytes());
+            if let Some(part) = self.message.get_mut(self.at..self.at + k / 4) {
+                if L::SHORT {
+                    for c in 0..k / 8 {
+                        part[2 * c..2 * c + 2].copy_from_slice(&packed(x[c]).to_be_bytes());
+                    }
+                } else {
+                    let (twos, _) = part.as_chunks_mut::<2>();
+                    for (two, &x) in twos.iter_mut().zip(x) {
+                        *two = two_bytes(x);
+                    }
                 }
-                if K % 8 == 4 {
-                    part[K / 4 - 1] = (packed(x[C - 1]) >> 8) as u8;
+                if k % 8 == 4 {
+                    part[k / 4 - 1] = (packed(x[numbers - 1]) >> 8) as u8;
                 }
             }
-            self.at += K / 4;
+            self.at += k / 4;
             return;
         }
-        for c in 0..C {
-            let count = 2 * (K - 8 * c).min(8);
+        for c in 0..numbers {
+            let count = 2 * (k - 8 * c).min(8);
             self.bits = self.bits << count | packed(x[c]) as u32 >> (16 - count);
             self.count += count;
             while self.count >= 8 {
@@ -1236,6 +1568,14 @@ impl<'a> Packer<'a> {
 fn packed(x: u64) -> u16 {
     let pairs = (x << 2 | x >> 8) & 0x000F_000F_000F_000F;
     (pairs.wrapping_mul(1 << 60 | 1 << 40 | 1 << 20 | 1) >> 48) as u16
+}
+
+/// Eight symbols as two bytes, without a product, so that many are packed at once.
+#[inline(always)]
+fn two_bytes(x: u64) -> [u8; 2] {
+    let pairs = (x << 2 | x >> 8) & 0x000F_000F_000F_000F;
+    let fours = pairs << 4 | pairs >> 16;
+    [fours as u8, (fours >> 32) as u8]
 }
 
 /// The mark of a verdict in the sheet.
@@ -1276,52 +1616,56 @@ impl Sheet {
 
 /// Reads l segments of equal lengths.
 #[inline(never)]
-fn read_equal<const K: usize, const C: usize>(
+fn read_equal<L: Length, const C: usize>(
+    length: L,
     l: usize,
     strand: impl Received,
     message: &mut [u8],
 ) -> Sheet {
     let mut packer = Packer::new(message);
     let mut sheet = Sheet::new();
-    let whole = K % 4 == 0;
+    let whole = length.k() % 4 == 0;
     let (mut p, mut f) = (0, None);
     let mut i = 0;
     while i < l {
         i += 1;
         let last = i == l;
+        let mut read = [0; C];
         let clean = match f {
-            None => clean_segment_at::<K, C>(&strand, p, None, last),
-            Some(f) => clean_segment_at::<K, C>(&strand, p, Some(f), last),
+            None => clean_segment_at(length, strand, p, None, last, &mut read),
+            Some(f) => clean_segment_at(length, strand, p, Some(f), last, &mut read),
         };
         if let Some(segment) = clean {
-            packer.put::<K, C>(&segment.message, whole);
-            sheet.add(strand.verdict(p, &segment));
+            packer.put(length, &read, whole);
+            sheet.add(strand.verdict::<L>(p, &segment));
             (p, f) = (segment.end, Some(segment.f));
             continue;
         }
-        match segment_at::<K, C>(strand, p, f, last, Same::<K, C>) {
+        let mut read = [0; C];
+        let next = Same::<L, C>(length);
+        match segment_at(length, strand, p, f, last, next, &mut read) {
             Ok(segment) => {
-                packer.put::<K, C>(&segment.message, whole);
-                sheet.add(strand.verdict(p, &segment));
+                packer.put(length, &read, whole);
+                sheet.add(strand.verdict::<L>(p, &segment));
                 (p, f) = (segment.end, Some(segment.f));
             }
             Err(step) => {
-                packer.put::<K, C>(&[0; C], whole);
+                packer.put(length, &[0; C], whole);
                 sheet.add(Verdict::Lost { step });
                 if last {
                     break;
                 }
                 // Step 10.
-                let own = p + Shape::<K, C>::BODY + if f.is_some() { 2 } else { 0 };
-                let Some(start) = scan::<K, C>(strand, p, own) else {
+                let own = p + length.body() + if f.is_some() { 2 } else { 0 };
+                let Some(start) = scan::<L, C>(length, strand, p, own) else {
                     break;
                 };
-                (p, f) = (start, Some(strand.symbols[start - 1]));
+                (p, f) = (start, Some(strand.symbols()[start - 1]));
             }
         }
     }
     for _ in i..l {
-        packer.put::<K, C>(&[0; C], whole);
+        packer.put(length, &[0; C], whole);
         sheet.add(Verdict::NoStart);
     }
     sheet
@@ -1337,35 +1681,38 @@ struct Walk<'a> {
 
 /// Reads one segment, the last where there is no next one; hands back whether another has a start.
 #[inline(never)]
-fn walk_on<const K: usize, const C: usize>(
+fn walk_on<L: Length, const C: usize>(
+    length: L,
     strand: impl Received,
     next: Option<&u16>,
     walk: &mut Walk,
 ) -> bool {
     let (p, f) = (walk.p, walk.f);
-    let whole = K % 4 == 0 && walk.packer.count == 0;
-    let read = match clean_segment_at::<K, C>(&strand, p, f, next.is_none()) {
-        Some(segment) => Ok(segment),
-        None => {
-            let other = Other(next.copied().unwrap_or(0));
-            segment_at::<K, C>(strand, p, f, next.is_none(), other)
-        }
-    };
-    match read {
+    let whole = length.k() % 4 == 0 && walk.packer.count == 0;
+    let mut read = [0; C];
+    if let Some(segment) = clean_segment_at(length, strand, p, f, next.is_none(), &mut read) {
+        walk.packer.put(length, &read, whole);
+        walk.sheet.add(strand.verdict::<L>(p, &segment));
+        (walk.p, walk.f) = (segment.end, Some(segment.f));
+        return true;
+    }
+    let mut read = [0; C];
+    let other = Other(next.copied().unwrap_or(0));
+    match segment_at(length, strand, p, f, next.is_none(), other, &mut read) {
         Ok(segment) => {
-            walk.packer.put::<K, C>(&segment.message, whole);
-            walk.sheet.add(strand.verdict(p, &segment));
+            walk.packer.put(length, &read, whole);
+            walk.sheet.add(strand.verdict::<L>(p, &segment));
             (walk.p, walk.f) = (segment.end, Some(segment.f));
             true
         }
         Err(step) => {
-            walk.packer.put::<K, C>(&[0; C], whole);
+            walk.packer.put(length, &[0; C], whole);
             walk.sheet.add(Verdict::Lost { step });
             // Step 10.
-            let own = p + Shape::<K, C>::BODY + if f.is_some() { 2 } else { 0 };
+            let own = p + length.body() + if f.is_some() { 2 } else { 0 };
             let start = next.and_then(|&k| by_k!(k, scan(strand, p, own), None));
             if let Some(start) = start {
-                (walk.p, walk.f) = (start, Some(strand.symbols[start - 1]));
+                (walk.p, walk.f) = (start, Some(strand.symbols()[start - 1]));
             }
             start.is_some()
         }
@@ -1374,9 +1721,9 @@ fn walk_on<const K: usize, const C: usize>(
 
 /// A segment without a start.
 #[inline(never)]
-fn no_start<const K: usize, const C: usize>(walk: &mut Walk) {
-    let whole = K % 4 == 0 && walk.packer.count == 0;
-    walk.packer.put::<K, C>(&[0; C], whole);
+fn no_start<L: Length, const C: usize>(length: L, walk: &mut Walk) {
+    let whole = length.k() % 4 == 0 && walk.packer.count == 0;
+    walk.packer.put(length, &[0; C], whole);
     walk.sheet.add(Verdict::NoStart);
 }
 
@@ -1419,20 +1766,61 @@ fn read_segments(
 
 /// Test 6, and the segments, for a strand with letters other than A, T, C and G.
 #[inline(never)]
-fn read_with_unknown(
+fn read_with_unknown<const R: usize, const P: usize>(
     lengths: &[u16],
     equal: Option<u16>,
     letters: &[u8],
-    strand: &mut Strand,
+    strand: &mut Strand<R>,
     message: &mut [u8],
 ) -> Result<Sheet, Refused> {
     let no_foreign = letters.iter().fold(true, |all, &x| all & is_letter(x));
     if !no_foreign {
         return Err(first_foreign(letters));
     }
-    let places = &strand.unknown_as_a(letters);
+    let places = &strand.unknown_as_a::<P>(letters);
     let strand = WithUnknown { strand, places };
     read_segments(lengths, equal, strand, message)
+}
+
+/// Test 6 and all that a reading gives, for a strand of at most R letters.
+/// P bytes hold a bit for each of them, and 48 more for a load at the end.
+#[inline(always)]
+fn read_in<const R: usize, const P: usize>(
+    lengths: &[u16],
+    equal: Option<u16>,
+    letters: &[u8],
+    message: &mut [u8],
+    sheet: &mut [u8],
+) -> Result<[u32; 3], Refused> {
+    let mut strand = Strand {
+        symbols: [PAST; R],
+        length: letters.len(),
+    };
+    let read = if strand.fill(letters) {
+        read_segments(lengths, equal, &strand, message)?
+    } else {
+        read_with_unknown::<R, P>(lengths, equal, letters, &mut strand, message)?
+    };
+    let l = lengths.len();
+    let mut marks = read.marks << (128 - 2 * l);
+    for byte in sheet {
+        *byte = (marks >> 120) as u8;
+        marks <<= 8;
+    }
+    let clean = l as u32 - read.corrected - read.lost;
+    Ok([clean, read.corrected, read.lost])
+}
+
+/// The same for a strand of more than 2,048 letters.
+#[inline(never)]
+fn read_long(
+    lengths: &[u16],
+    equal: Option<u16>,
+    letters: &[u8],
+    message: &mut [u8],
+    sheet: &mut [u8],
+) -> Result<[u32; 3], Refused> {
+    read_in::<4096, { 512 + 48 }>(lengths, equal, letters, message, sheet)
 }
 
 /// Reads a strand; hands back the counts of clean, corrected and lost segments.
@@ -1444,30 +1832,17 @@ pub fn read(
     sheet: &mut [u8],
 ) -> Result<[u32; 3], Refused> {
     let equal = equal_length(lengths, b, None)?;
-    let l = lengths.len();
-    if letters.len() > 2048 {
+    if letters.len() > 4096 {
         return refuse(4);
     }
     let (Some(message), Some(sheet)) = (
         message.get_mut(..b as usize),
-        sheet.get_mut(..l.div_ceil(4)),
+        sheet.get_mut(..lengths.len().div_ceil(4)),
     ) else {
         return refuse(5);
     };
-    let mut strand = Strand {
-        symbols: [PAST; 2048],
-        length: letters.len(),
-    };
-    let read = if strand.fill(letters) {
-        read_segments(lengths, equal, &strand, message)?
-    } else {
-        read_with_unknown(lengths, equal, letters, &mut strand, message)?
-    };
-    let mut marks = read.marks << (128 - 2 * l);
-    for byte in sheet {
-        *byte = (marks >> 120) as u8;
-        marks <<= 8;
+    if letters.len() > 2048 {
+        return read_long(lengths, equal, letters, message, sheet);
     }
-    let clean = l as u32 - read.corrected - read.lost;
-    Ok([clean, read.corrected, read.lost])
+    read_in::<2048, { 256 + 48 }>(lengths, equal, letters, message, sheet)
 }

@@ -170,14 +170,14 @@ const B: u32 = 32;
 const MESSAGE: &[u8; B as usize] = b"Barley seeds, lot 17, drawer 204";
 
 fn main() {
-    let mut label = [0; 59];
+    let mut label = [0; 75];
     let labelled = write_label(&LENGTHS, B, &mut label);
     taken(labelled.refusal, labelled.place);
     let label = &label[..labelled.length];
     let digits: String = label.iter().map(|byte| format!("{byte:02X}")).collect();
     println!("label {digits}");
 
-    let mut strand = [0; 1198];
+    let mut strand = [0; 2874];
     let written = write(&LENGTHS, B, MESSAGE, &mut strand);
     taken(written.refusal, written.place);
     println!("written {} letters", written.length);
@@ -189,7 +189,7 @@ fn main() {
     let order = read_label(label);
     taken(order.refusal, 0);
     let lengths = &order.lengths[..order.count];
-    let mut message = [0; 128];
+    let mut message = [0; 512];
     let mut sheet = [0; 16];
     let counts = read(lengths, order.b, letters, &mut message, &mut sheet);
     taken(counts.refusal, counts.place);

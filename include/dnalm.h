@@ -3,7 +3,7 @@
  *
  * A message of B bytes is 4B symbols. It is written in the letters A, T, C and G, as l segments.
  * A layout lists their lengths, the symbols of the message in each segment from the first to the last:
- * 1 to 64 lengths, each 2 to 64, that sum to 4B. They may be equal, or short at the ends and long between.
+ * 1 to 64 lengths, each 2 to 256, that sum to 4B. They may be equal, or short at the ends and long between.
  * A received strand may also have the letter N, which sequencers write where they could not decide. N is
  * read as A, and a segment with an N never counts as clean.
  * On every layout a strand with at most one letter changed, lost or added in each segment is read back
@@ -40,28 +40,31 @@ extern "C" {
 /* The limits, and the sizes that are enough for every order within them. */
 enum {
     DNALM_LEAST_LENGTH = 2,     /* each length of a layout */
-    DNALM_MOST_LENGTH = 64,
-    DNALM_MOST_BYTES = 128,     /* B, the bytes of a strand's message; at least 1 */
+    DNALM_MOST_LENGTH = 256,
+    DNALM_MOST_BYTES = 512,     /* B, the bytes of a strand's message; at least 1 */
     DNALM_MOST_SEGMENTS = 64,   /* l, the number of lengths; at least 1 */
-    DNALM_MOST_LETTERS = 2048,  /* letters of a received strand */
-    DNALM_MOST_WRITTEN = 1198,  /* letters of a written strand; with a letter added in each segment 1,262 */
+    DNALM_MOST_LETTERS = 4096,  /* letters of a received strand */
+    DNALM_MOST_WRITTEN = 2874,  /* letters of a written strand; with a letter added in each segment 2,938 */
     DNALM_MOST_SHEET = 16,      /* bytes of a sheet */
-    DNALM_MOST_LABEL = 59,      /* bytes of a label */
-    DNALM_MOST_REPORT = 960     /* bytes of a report: 64 lines of at most 15 */
+    DNALM_MOST_LABEL = 75,      /* bytes of a label that is written, also of a converted one */
+    DNALM_MOST_REPORT = 960,    /* bytes of a report: 64 lines of at most 15 */
+    DNALM_MOST_OLD_LENGTH = 64, /* each length in a label of the old editions, 1 and 2 */
+    DNALM_MOST_OLD_BYTES = 128  /* B in a label of the old editions */
 };
 
-/* The refusals by their numbers. */
+/* The refusals by their numbers. The old editions of a label are 1 and 2. */
 enum {
     DNALM_TAKEN = 0,
-    DNALM_SEGMENT_LENGTH = 1,   /* a length is not 2 to 64, the first or any other */
-    DNALM_MESSAGE_SIZE = 2,     /* B is not 1 to 128, or the message to write has not B bytes */
+    DNALM_SEGMENT_LENGTH = 1,   /* a length is not 2 to 256, in an old edition 2 to 64, the first or any other */
+    DNALM_MESSAGE_SIZE = 2,     /* B is not 1 to 512, in an old edition 1 to 128, or the message to write has not B bytes */
     DNALM_CUT = 3,              /* there are no lengths or more than 64, or their sum is not 4B */
-    DNALM_OVERLONG = 4,         /* there are more than 2,048 letters */
+    DNALM_OVERLONG = 4,         /* there are more than 4,096 letters */
     DNALM_SHORT_BUFFER = 5,     /* a buffer or a label has too few bytes */
     DNALM_FOREIGN_LETTER = 6,   /* a byte is none of A, T, C, G and N */
     DNALM_TALLY_FULL = 7,       /* a count would pass 4,294,967,295 */
-    DNALM_LABEL = 8,            /* the edition is not 1 or 2, a spare bit is set, or 1 to 64 equal lengths are in edition 2 */
-    DNALM_NO_SUCH_SEGMENT = 9   /* the segment's number is not 1 to l */
+    DNALM_LABEL = 8,            /* the edition is not 1 to 3, a spare bit is set, or 1 to 64 equal lengths are in edition 2 */
+    DNALM_NO_SUCH_SEGMENT = 9,  /* the segment's number is not 1 to l */
+    DNALM_TOO_LARGE = 13        /* a label to convert is too large for the old editions: a length above 64, or B above 128 */
 };
 
 /* What dnalm_letter answers for a byte that has no symbol. */
@@ -225,27 +228,49 @@ dnalm_said dnalm_verdict(const uint16_t *lengths, size_t lengths_count, uint32_t
                          uint32_t segment);
 
 /*
- * Writes the label of a layout and B = b to the front of out, the most significant bit first.
- * Equal lengths, of which one alone is equal, have edition 1: the edition in 4 bits, the length in 7, B in
- * 8, and 13 spare zero bits; 4 bytes. All others have edition 2: the edition in 4 bits, B in 8, the number of
- * lengths in 7, each length in 7, and spare zero bits to the end of the byte; (26 + 7 * lengths_count) / 8
- * bytes.
+ * Writes the label of a layout and B = b to the front of out, the most significant bit first. It has the
+ * oldest edition that can carry the order. The old editions, 1 and 2, carry lengths up to 64 and B up to 128:
+ * equal lengths, of which one alone is equal, have edition 1, all others edition 2. With a length above 64 or
+ * B above 128 the label has edition 3.
  *
- * Refused, in this order: 1, 2, 3, 5 where out has fewer bytes than the label.
- * The bytes of out behind the label are untouched.
+ *     edition 1      edition 4 bits, the length 7, B 8, and 13 spare zero bits; 4 bytes
+ *     edition 2      edition 4 bits, B 8, the number of lengths 7, each length 7, and spare zero bits to the
+ *                    end of the byte; (26 + 7 * lengths_count) / 8 bytes, at most 59
+ *     edition 3      edition 4 bits, B 10, the number of lengths 7, each length 9, and spare zero bits to the
+ *                    end of the byte; (28 + 9 * lengths_count) / 8 bytes, at most 75
+ *
+ * Refused, in this order: 1, 2, 3, 5 where out has fewer bytes than the label; DNALM_MOST_LABEL are enough
+ * for any. The bytes of out behind the label are untouched.
  */
 dnalm_written dnalm_write_label(const uint16_t *lengths, size_t lengths_count, uint32_t b,
                                 uint8_t *out, size_t out_length);
 
 /*
- * Reads a label. The bytes it needs are told by itself: by edition 2 those of its own number of lengths,
- * 0 to 127, as above; by edition 1, and by one that is not known, four. Bytes behind these are not read.
+ * Reads a label of edition 1, 2 or 3; one of edition 3 may carry any layout, also one that an old edition can
+ * carry. The bytes it needs are told by itself: by editions 2 and 3 those of its own number of lengths, 0 to
+ * 127, as above, at most 114 and 146; by edition 1, and by one that is not known, four. Bytes behind these are
+ * not read.
  *
  * Refused, in this order: 5 where there are fewer bytes than it needs, or too few to tell them: none, or by
- * edition 2 fewer than three; 8, by edition 2 also for 1 to 64 equal lengths, whatever these are; 1; 2; 3, by
- * edition 1 where 4B is not a multiple of the length, or makes more than 64 segments. It writes to nothing.
+ * editions 2 and 3 fewer than three; 8, by edition 2 also for 1 to 64 equal lengths, whatever these are; 1, by
+ * the old editions also for a length above 64; 2, by these also for B above 128; 3, by edition 1 where 4B is
+ * not a multiple of the length, or makes more than 64 segments. It writes to nothing.
  */
 dnalm_order dnalm_read_label(const uint8_t *bytes, size_t bytes_length);
+
+/*
+ * Converts a label to the other side and writes it to the front of out: a label of edition 1 or 2 becomes one
+ * of edition 3, and a label of edition 3 becomes one of edition 1 if its lengths are equal, else one of
+ * edition 2. It carries the same order, and converted once more it is the label that was read. Bytes behind
+ * those that the label needs are not read. A reader that knows the old editions alone refuses by 8 each label
+ * of edition 3 that carries an order.
+ *
+ * Refused, in this order: 5, 8, 1, 2, 3 as by dnalm_read_label; 13 for a label of edition 3 with a length
+ * above 64 or B above 128; 5 where out has fewer bytes than the converted label: DNALM_MOST_LABEL are enough
+ * for any. The bytes of out behind the label are untouched.
+ */
+dnalm_written dnalm_convert_label(const uint8_t *label, size_t label_length,
+                                  uint8_t *out, size_t out_length);
 
 /*
  * Adds one strand and the three counts of its reading to a tally. All four counts change, or none.

@@ -1,4 +1,4 @@
-/* What the header says of sizes, empty buffers, letters, reports and refused calls, held against the library. It is C99 and C++ alike. */
+/* What the header says of sizes, empty buffers, labels, letters, reports and refused calls, held against the library. It is C99 and C++ alike. */
 #include "dnalm.h"
 #include <stdio.h>
 #include <stdlib.h>
@@ -21,7 +21,26 @@ static void fill(uint16_t *lengths, size_t count, uint32_t length)
     }
 }
 
-/* A layout that is taken: strand and label are written in the sizes told, and read back. Answers the letters. */
+/* A label of so many bytes is converted to one of edition 3 with so many, and back to its bytes; for 0 it is too large. */
+static void converted(const uint8_t *label, size_t length, size_t other_length)
+{
+    uint8_t other[DNALM_MOST_LABEL];
+    uint8_t back[DNALM_MOST_LABEL];
+    memset(other, 7, sizeof other);
+    if (other_length == 0) {
+        EXPECT(dnalm_convert_label(label, length, NULL, 0).refusal == DNALM_TOO_LARGE);
+        return;
+    }
+    EXPECT(dnalm_convert_label(label, length, other, other_length - 1).refusal == DNALM_SHORT_BUFFER);
+    EXPECT(other[0] == 7);
+    dnalm_written w = dnalm_convert_label(label, length, other, sizeof other);
+    EXPECT(w.refusal == DNALM_TAKEN && w.place == 0 && w.length == other_length && other[0] >> 4 == 3);
+    EXPECT(w.length == sizeof other || other[w.length] == 7);
+    w = dnalm_convert_label(other, w.length, back, sizeof back);
+    EXPECT(w.refusal == DNALM_TAKEN && w.place == 0 && w.length == length && memcmp(back, label, length) == 0);
+}
+
+/* A layout that is taken: strand and label are written in the sizes told, and read back; the label is converted. Answers the letters. */
 static size_t taken(const uint16_t *lengths, size_t count, uint32_t b)
 {
     uint8_t bytes[DNALM_MOST_BYTES];
@@ -34,6 +53,7 @@ static size_t taken(const uint16_t *lengths, size_t count, uint32_t b)
     EXPECT(w.refusal == DNALM_TAKEN && w.place == 0);
     size_t letters = 0;
     int equal = 1;
+    int old = b <= DNALM_MOST_OLD_BYTES;
     for (size_t i = 0; i < count; i++) {
         uint32_t t = 0;
         while ((2u * lengths[i] - 1) >> t != 0) {
@@ -41,12 +61,13 @@ static size_t taken(const uint16_t *lengths, size_t count, uint32_t b)
         }
         letters += lengths[i] + t + 6;
         equal = equal && lengths[i] == lengths[0];
+        old = old && lengths[i] <= DNALM_MOST_OLD_LENGTH;
     }
     EXPECT(w.length == letters - 2);
     dnalm_written l = dnalm_write_label(lengths, count, b, label, sizeof label);
     EXPECT(l.refusal == DNALM_TAKEN && l.place == 0);
-    EXPECT(l.length == (equal ? 4 : (26 + 7 * count) / 8));
-    EXPECT(label[0] >> 4 == (equal ? 1 : 2));
+    EXPECT(l.length == (!old ? (28 + 9 * count) / 8 : equal ? 4 : (26 + 7 * count) / 8));
+    EXPECT(label[0] >> 4 == (!old ? 3 : equal ? 1 : 2));
     dnalm_order o = dnalm_read_label(label, l.length);
     EXPECT(o.refusal == DNALM_TAKEN && o.b == b && o.count == count);
     for (size_t i = 0; i < DNALM_MOST_SEGMENTS; i++) {
@@ -58,6 +79,7 @@ static size_t taken(const uint16_t *lengths, size_t count, uint32_t b)
     EXPECT(dnalm_write(lengths, count, b, bytes, b, strand, w.length - 1).refusal == DNALM_SHORT_BUFFER);
     EXPECT(dnalm_write_label(lengths, count, b, label, l.length - 1).refusal == DNALM_SHORT_BUFFER);
     EXPECT(dnalm_read_label(label, l.length - 1).refusal == DNALM_SHORT_BUFFER);
+    converted(label, l.length, old ? (28 + 9 * count) / 8 : 0);
     return w.length;
 }
 
@@ -93,7 +115,7 @@ static void sizes(void)
             EXPECT(w.place == 0 && w.length == 0 && l.place == 0 && l.length == 0);
         }
     }
-    EXPECT(most == 1150);
+    EXPECT(most == 2818);
     EXPECT(segments == DNALM_MOST_SEGMENTS);
     EXPECT((segments + 3) / 4 == DNALM_MOST_SHEET);
 }
@@ -107,14 +129,18 @@ static void mixed(void)
     uint8_t out[DNALM_MOST_WRITTEN];
     EXPECT(taken(ends, 12, 72) == 420);
     fill(lengths, 48, 9);
-    fill(lengths + 48, 17, 5);
-    EXPECT(taken(lengths, 64, 128) == DNALM_MOST_WRITTEN);
-    EXPECT(dnalm_write_label(lengths, 64, 128, out, sizeof out).length == DNALM_MOST_LABEL);
+    fill(lengths + 48, 16, 5);
+    EXPECT(taken(lengths, 64, 128) == 1198);
+    EXPECT(dnalm_write_label(lengths, 64, 128, out, sizeof out).length == 59);
+    fill(lengths, 60, 33);
+    fill(lengths + 60, 5, 17);
+    EXPECT(taken(lengths, 64, 512) == DNALM_MOST_WRITTEN);
+    EXPECT(dnalm_write_label(lengths, 64, 512, out, sizeof out).length == DNALM_MOST_LABEL);
     memset(bytes, 0x1B, sizeof bytes);
-    EXPECT(dnalm_write(lengths, 63, 128, bytes, 128, out, sizeof out).refusal == DNALM_CUT);
-    EXPECT(dnalm_write(lengths, 65, 128, bytes, 128, out, sizeof out).refusal == DNALM_CUT);
-    lengths[64] = 65;
-    EXPECT(dnalm_write(lengths, 65, 128, bytes, 128, out, sizeof out).refusal == DNALM_SEGMENT_LENGTH);
+    EXPECT(dnalm_write(lengths, 63, 512, bytes, 512, out, sizeof out).refusal == DNALM_CUT);
+    EXPECT(dnalm_write(lengths, 65, 512, bytes, 512, out, sizeof out).refusal == DNALM_CUT);
+    lengths[64] = 257;
+    EXPECT(dnalm_write(lengths, 65, 512, bytes, 512, out, sizeof out).refusal == DNALM_SEGMENT_LENGTH);
     EXPECT(dnalm_write(lengths, 65, 0, NULL, 0, NULL, 0).refusal == DNALM_SEGMENT_LENGTH);
     EXPECT(dnalm_write(lengths, 64, 0, NULL, 0, NULL, 0).refusal == DNALM_MESSAGE_SIZE);
 }
@@ -144,6 +170,8 @@ static void empty(void)
     EXPECT(dnalm_verdict(two, 2, 1, NULL, 0, 0).refusal == DNALM_NO_SUCH_SEGMENT);
     EXPECT(dnalm_write_label(two, 2, 1, NULL, 0).refusal == DNALM_SHORT_BUFFER);
     EXPECT(dnalm_read_label(NULL, 0).refusal == DNALM_SHORT_BUFFER);
+    EXPECT(dnalm_convert_label(NULL, 0, NULL, 0).refusal == DNALM_SHORT_BUFFER);
+    EXPECT(dnalm_convert_label(NULL, 0, message, 2).refusal == DNALM_SHORT_BUFFER);
     EXPECT(dnalm_write(NULL, 0, 1, bytes, 1, NULL, 0).refusal == DNALM_CUT);
     EXPECT(dnalm_write(NULL, 0, 0, NULL, 0, NULL, 0).refusal == DNALM_MESSAGE_SIZE);
     EXPECT(dnalm_read(NULL, 0, 1, NULL, 0, message, 2, sheet, 2).refusal == DNALM_CUT);
@@ -151,6 +179,19 @@ static void empty(void)
     EXPECT(dnalm_report(NULL, 0, 1, NULL, 0, NULL, 0).refusal == DNALM_CUT);
     EXPECT(dnalm_verdict(NULL, 0, 1, NULL, 0, 0).refusal == DNALM_CUT);
     EXPECT(dnalm_write_label(NULL, 0, 1, NULL, 0).refusal == DNALM_CUT);
+}
+
+/* A label of so many bytes is not converted by this number, whatever the buffer, which stays as it was. */
+static void not_converted(const char *bytes, size_t length, uint32_t refusal)
+{
+    uint8_t out[DNALM_MOST_LABEL];
+    memset(out, 7, sizeof out);
+    EXPECT(dnalm_convert_label((const uint8_t *)bytes, length, NULL, 0).refusal == refusal);
+    dnalm_written w = dnalm_convert_label((const uint8_t *)bytes, length, out, sizeof out);
+    EXPECT(w.refusal == refusal && w.place == 0 && w.length == 0);
+    for (size_t i = 0; i < sizeof out; i++) {
+        EXPECT(out[i] == 7);
+    }
 }
 
 /* A label of so many bytes is refused by this number, and the other numbers are 0. */
@@ -161,29 +202,50 @@ static void no_label(const char *bytes, size_t length, uint32_t refusal)
     for (size_t i = 0; i < DNALM_MOST_SEGMENTS; i++) {
         EXPECT(o.lengths[i] == 0);
     }
+    not_converted(bytes, length, refusal);
 }
 
-/* Labels by what they need and what is refused of them; 20 20 40 83 00 are the lengths 2 and 6. */
+/* Labels by what they need and what is refused of them; 20 20 40 83 00 and 30 08 10 08 0C are the lengths 2 and 6. */
 static void labels(void)
 {
-    dnalm_order o = dnalm_read_label((const uint8_t *)"\x20\x20\x40\x83\x00\xFF", 6);
+    const uint8_t *old = (const uint8_t *)"\x20\x20\x40\x83\x00\xFF";
+    const uint8_t *third = (const uint8_t *)"\x30\x08\x10\x08\x0C\xFF";
+    uint8_t out[5];
+    dnalm_order o = dnalm_read_label(old, 6);
     EXPECT(o.refusal == DNALM_TAKEN && o.b == 2 && o.count == 2 && o.lengths[0] == 2 && o.lengths[1] == 6);
+    o = dnalm_read_label(third, 6);
+    EXPECT(o.refusal == DNALM_TAKEN && o.b == 2 && o.count == 2 && o.lengths[0] == 2 && o.lengths[1] == 6);
+    EXPECT(dnalm_convert_label(old, 6, out, 5).length == 5 && memcmp(out, third, 5) == 0);
+    EXPECT(dnalm_convert_label(third, 6, out, 5).length == 5 && memcmp(out, old, 5) == 0);
+    EXPECT(dnalm_convert_label((const uint8_t *)"\x30\x04\x10\x08\x04", 5, out, 4).length == 4 && memcmp(out, "\x10\x40\x20\x00", 4) == 0);
     no_label("\x20\x20\x40\x83", 4, DNALM_SHORT_BUFFER);
     no_label("\x20\x20", 2, DNALM_SHORT_BUFFER);
     no_label("\x20\x2F\xE0\x83", 4, DNALM_SHORT_BUFFER);
-    no_label("\x30\x20\x40", 3, DNALM_SHORT_BUFFER);
-    no_label("\x30\x20\x40\x83", 4, DNALM_LABEL);
+    no_label("\x30\x08\x10\x08", 4, DNALM_SHORT_BUFFER);
+    no_label("\x30\x08", 2, DNALM_SHORT_BUFFER);
+    no_label("\x30\x0B\xF8\x08", 4, DNALM_SHORT_BUFFER);
+    no_label("\x40\x20\x40", 3, DNALM_SHORT_BUFFER);
+    no_label("\x40\x20\x40\x83", 4, DNALM_LABEL);
     no_label("\x00\x40\x20\x00", 4, DNALM_LABEL);
     no_label("\x10\x40\x20\x01", 4, DNALM_LABEL);
     no_label("\x20\x20\x40\x83\x40", 5, DNALM_LABEL);
+    no_label("\x30\x08\x10\x08\x0D", 5, DNALM_LABEL);
     no_label("\x20\x20\x41\x02\x00", 5, DNALM_LABEL);
     no_label("\x20\x20\x21\x00", 4, DNALM_LABEL);
     no_label("\x20\x00\x40\x40\x80", 5, DNALM_LABEL);
     no_label("\x20\x20\x40\x43\x80", 5, DNALM_SEGMENT_LENGTH);
+    no_label("\x18\x22\x20\x00", 4, DNALM_SEGMENT_LENGTH);
+    no_label("\x21\x10\x50\x41\x80", 5, DNALM_SEGMENT_LENGTH);
+    no_label("\x31\x04\x14\x04\x06", 5, DNALM_SEGMENT_LENGTH);
     no_label("\x20\x00\x40\x83\x00", 5, DNALM_MESSAGE_SIZE);
+    no_label("\x15\x70\x20\x00", 4, DNALM_MESSAGE_SIZE);
+    no_label("\x38\x04\x10\x08\x04", 5, DNALM_MESSAGE_SIZE);
     no_label("\x20\x30\x40\x83\x00", 5, DNALM_CUT);
     no_label("\x20\x20\x00", 3, DNALM_CUT);
+    no_label("\x30\x08\x00", 3, DNALM_CUT);
     no_label("\x10\x60\x20\x00", 4, DNALM_CUT);
+    not_converted("\x30\x44\x11\x04\x06", 5, DNALM_TOO_LARGE);
+    not_converted("\x31\x00\x0C\x00", 4, DNALM_TOO_LARGE);
 }
 
 /* What each byte is; an N in the place of an A and one in the place of a C, both corrected; their pieces. */

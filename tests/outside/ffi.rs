@@ -121,6 +121,12 @@ extern "C" {
         out_length: usize,
     ) -> Written;
     pub fn dnalm_read_label(bytes: *const u8, bytes_length: usize) -> Order;
+    pub fn dnalm_convert_label(
+        label: *const u8,
+        label_length: usize,
+        out: *mut u8,
+        out_length: usize,
+    ) -> Written;
     pub fn dnalm_add_to_tally(t: Tally, clean: u32, corrected: u32, lost: u32) -> Tallied;
 }
 
@@ -218,4 +224,8 @@ pub fn write_label(lengths: &[u16], b: u32, out: &mut [u8]) -> Written {
 
 pub fn read_label(bytes: &[u8]) -> Order {
     unsafe { dnalm_read_label(bytes.as_ptr(), bytes.len()) }
+}
+
+pub fn convert_label(label: &[u8], out: &mut [u8]) -> Written {
+    unsafe { dnalm_convert_label(label.as_ptr(), label.len(), out.as_mut_ptr(), out.len()) }
 }

@@ -141,6 +141,11 @@ pub fn told() {
     }
     let (_, lines) = library_report(&[4], 1, b"ATCGCAAAGGT");
     sample("place 10", lines, b"1 sub 10 T\n".to_vec());
+    // 256 times A, the check A, the separator CCC and the syndrome of nine A; a letter is changed.
+    let mut long = [&[b'A'; 257][..], b"CCC", &[b'A'; 9]].concat();
+    long[200] = b'G';
+    let (_, lines) = library_report(&[256], 64, &long);
+    sample("place 200", lines, b"1 sub 200 G\n".to_vec());
     // The longest lines: 9 bytes for the first segment, 13 for each of the next 8, 14 for each of the others.
     let (got, _) = library_report(&[2; 64], 32, b"");
     sample("most bytes", (got.refusal, got.length), (0, 883));
@@ -246,13 +251,13 @@ fn line_of((words, number): (&str, usize)) -> String {
 
 /// What is refused first, with a buffer of no bytes, and the room that lines of 16 bytes need.
 pub fn refused() {
-    let many = [&[b'A'; 2048][..], b"X"].concat();
+    let many = [&[b'A'; 4096][..], b"X"].concat();
     let refused: [(&[u16], u32, &[u8], u32, usize); 6] = [
         (&[1, 5], 0, &many, 1, 0),
         (&[2, 3], 0, &many, 2, 0),
         (&[2, 3], 1, &many, 3, 0),
         (&[2, 2], 1, &many, 4, 0),
-        (&[2, 2], 1, &many[1..], 6, 2047),
+        (&[2, 2], 1, &many[1..], 6, 4095),
         (&[2, 2], 1, b"ATNx", 6, 3),
     ];
     for (lengths, b, letters, number, place) in refused {

@@ -3,7 +3,9 @@
 mod conditions;
 #[allow(dead_code)]
 mod ffi;
+mod labels;
 mod lines;
+mod old_label;
 mod oracle;
 #[allow(dead_code)]
 mod program;
@@ -26,8 +28,17 @@ const GUARD: usize = 64;
 /// The bytes that are enough for the lines of every strand.
 const MOST_REPORT: usize = 960;
 
+/// The bytes that are enough for every label that is written.
+const MOST_LABEL: usize = 75;
+
+/// The bytes that are enough for every strand that is written.
+const ROOM: usize = 3000;
+
 /// The segments of one strand whose verdicts are asked one by one.
 const MOST_VERDICTS: usize = 4;
+
+/// Up to so many bytes every shorter buffer is tried too.
+const MANY_ROOMS: usize = 160;
 
 /// How seldom the lines of a strand of demand 3 are compared.
 const TOLD_ONCE_IN: u64 = 47;
@@ -130,6 +141,7 @@ impl<T: Shown> Lent<T> {
 enum Kind {
     Untouched,
     OneEdit,
+    LongSegments,
     Damaged(Damage),
     Overlong,
     Foreign,
@@ -142,6 +154,7 @@ fn kinds() -> Vec<Kind> {
     let mut kinds = vec![
         Kind::Untouched,
         Kind::OneEdit,
+        Kind::LongSegments,
         Kind::Overlong,
         Kind::Foreign,
         Kind::ShortBuffers,
@@ -229,7 +242,8 @@ struct Met {
 impl Met {
     fn new() -> Met {
         let mut names: Vec<String> = kinds().iter().map(|kind| format!("{kind:?}")).collect();
-        names.extend((0..=9).map(|number| format!("refusal {number}")));
+        let numbers = (0..=9).chain([13]);
+        names.extend(numbers.map(|number| format!("refusal {number}")));
         for call in [
             "write",
             "read",
@@ -238,6 +252,7 @@ impl Met {
             "verdict",
             "write label",
             "read label",
+            "convert label",
             "tally",
         ] {
             names.push(format!("{call} taken"));
@@ -274,8 +289,26 @@ impl Met {
         let layouts = [
             "equal lengths",
             "mixed lengths",
+            "length above 64",
+            "B above 128",
+            "written above 1,198 letters",
+            "read above 2,048 letters",
+            "one-edit strand with a length above 64",
+            "edit at a place above 64",
             "label of edition 1",
             "label of edition 2",
+            "label of edition 3",
+            "label of edition 3 for equal lengths",
+            "label of edition 3 that an old one could carry",
+            "label too large for an old edition by its length",
+            "label too large for an old edition by its B",
+            "edition 1 written",
+            "edition 2 written",
+            "edition 3 written",
+            "edition 1 converted to 3",
+            "edition 2 converted to 3",
+            "edition 3 converted to 1",
+            "edition 3 converted to 2",
         ];
         names.extend(layouts.map(String::from));
         let counts = vec![0; names.len()];
@@ -380,6 +413,8 @@ impl Run {
         let mut wanted_out = out.content().to_vec();
         let answer = oracle::write(lengths, b, message, &mut wanted_out);
         self.count("write", &answer);
+        let letters = answer.unwrap_or(0);
+        self.met_if(letters > 1198, "written above 1,198 letters");
         let wanted = written_of(answer);
         let (layout_before, message_before) = (layout.with(lengths), lent.with(message));
         let out_wanted = out.with(&wanted_out);
@@ -425,6 +460,8 @@ impl Run {
         if answer.is_err_and(|refused| letters[..refused.place].contains(&b'N')) {
             self.met.add("foreign behind N");
         }
+        let long = answer.is_ok() && letters.len() > 2048;
+        self.met_if(long, "read above 2,048 letters");
         let wanted = match answer {
             Ok([clean, corrected, lost]) => Counts {
                 refusal: 0,
@@ -623,6 +660,7 @@ impl Run {
         }
     }
 
+    /// A label that is written reads back as its own order, so no other order has it.
     fn check_write_label(&mut self, lengths: &[u16], b: u32, length: usize) {
         let layout = self.lend(lengths, &[]);
         let mut out = self.buffer(length);
@@ -641,6 +679,12 @@ impl Run {
         self.same(&call, wanted, got);
         self.same_all(&call, "out", &out_wanted, &out);
         self.same_all(&call, "lengths", &layout_before, &layout);
+        if got.refusal == 0 {
+            let label = &out.content()[..got.length];
+            self.same(&call, order_of(Ok((lengths, b))), ffi::read_label(label));
+            let edition = label[0] >> 4;
+            self.met.add(&format!("edition {edition} written"));
+        }
     }
 
     fn check_read_label(&mut self, label: &[u8]) {
@@ -648,25 +692,89 @@ impl Run {
         let lent = self.lend(label, &behind);
         let answer = oracle::read_label(label);
         self.count("read label", &answer);
-        let mut wanted = Order {
-            refusal: 0,
-            b: 0,
-            count: 0,
-            lengths: [0; 64],
-        };
-        match answer {
-            Ok((lengths, b)) => {
-                self.met.add(&format!("label of edition {}", label[0] >> 4));
-                (wanted.b, wanted.count) = (b, lengths.len());
-                wanted.lengths[..lengths.len()].copy_from_slice(&lengths);
-            }
-            Err(refused) => wanted.refusal = refused.number,
+        if let Ok((lengths, b)) = &answer {
+            self.count_label(label[0] >> 4, lengths, *b);
         }
+        let wanted = answer.as_ref().map(|(lengths, b)| (&lengths[..], *b));
+        let wanted = order_of(wanted.map_err(|refused| refused.number));
         let before = lent.with(label);
         let got = unsafe { ffi::dnalm_read_label(lent.as_ptr(), label.len()) };
         let call = || format!("read label {}", hex(label));
         self.same(&call, wanted, got);
         self.same_all(&call, "label", &before, &lent);
+        self.check_old_reader(label, got);
+    }
+
+    /// Counts a label that is taken.
+    fn count_label(&mut self, edition: u8, lengths: &[u16], b: u32) {
+        self.met.add(&format!("label of edition {edition}"));
+        if edition != 3 {
+            return;
+        }
+        let equal = lengths.iter().all(|&k| k == lengths[0]);
+        self.met_if(equal, "label of edition 3 for equal lengths");
+        let long = lengths.iter().any(|&k| k > strands::OLD_LENGTH);
+        let large = b > strands::OLD_BYTES;
+        let either = long || large;
+        self.met_if(!either, "label of edition 3 that an old one could carry");
+        let by_length = "label too large for an old edition by its length";
+        self.met_if(long && !large, by_length);
+        let by_b = "label too large for an old edition by its B";
+        self.met_if(large && !long, by_b);
+    }
+
+    /// A reader of the old editions alone refuses each label of edition 3 that is taken by 8, and reads all others as the library does.
+    fn check_old_reader(&self, label: &[u8], got: Order) {
+        let old = old_label::read(label);
+        let call = || format!("read label by the old editions {}", hex(label));
+        if label.first().is_none_or(|first| first >> 4 != 3) {
+            let old = old.as_ref().map(|(lengths, b)| (&lengths[..], *b));
+            self.same(&call, order_of(old.map_err(|number| *number)), got);
+        } else if got.refusal == 0 {
+            self.same(&call, Err(8), old);
+        }
+    }
+
+    fn check_convert_label(&mut self, label: &[u8], room: usize) {
+        let behind = self.rng.bytes(4);
+        let lent = self.lend(label, &behind);
+        let mut out = self.buffer(room);
+        let mut wanted_out = out.content().to_vec();
+        let answer = oracle::convert_label(label, &mut wanted_out);
+        self.count("convert label", &answer);
+        let wanted = written_of(answer);
+        let (before, out_wanted) = (lent.with(label), out.with(&wanted_out));
+        let out_ptr = out.as_mut_ptr();
+        let got = unsafe { ffi::dnalm_convert_label(lent.as_ptr(), label.len(), out_ptr, room) };
+        let call = || format!("convert label {} out {room}", hex(label));
+        self.same(&call, wanted, got);
+        self.same_all(&call, "out", &out_wanted, &out);
+        self.same_all(&call, "label", &before, &lent);
+        if got.refusal == 0 {
+            self.check_back(label, &out.content()[..got.length]);
+        }
+    }
+
+    /// A converted label says what the label says, and is converted back to its bytes.
+    fn check_back(&mut self, label: &[u8], converted: &[u8]) {
+        let (from, to) = (label[0] >> 4, converted[0] >> 4);
+        self.met.add(&format!("edition {from} converted to {to}"));
+        let call = || format!("convert label {} to {}", hex(label), hex(converted));
+        let said = ffi::read_label(label);
+        self.same(&call, said, ffi::read_label(converted));
+        let mut back = [0xA5; MOST_LABEL];
+        let got = ffi::convert_label(converted, &mut back);
+        let needs = oracle::label_needs(label).unwrap_or(0);
+        self.same(&call, written_of(Ok(needs)), got);
+        self.same(&call, hex(&label[..needs]), hex(&back[..needs]));
+    }
+
+    /// A label converted in a buffer about as long as it takes.
+    fn convert_about(&mut self, label: &[u8]) {
+        let needed = oracle::convert_label(label, &mut [0; MOST_LABEL]).unwrap_or(4);
+        let room = self.rng.below(MOST_LABEL + 3);
+        let room = self.rng.of(&[needed - 1, needed, needed, needed + 1, room]);
+        self.check_convert_label(label, room);
     }
 
     fn check_tally(&mut self, tally: Tally, [clean, corrected, lost]: [u32; 3]) {
@@ -697,6 +805,10 @@ impl Run {
                 Verdict::Read(Edit::Sub { letter: b'N', .. }) => self.met.add("N told by sub"),
                 Verdict::Read(Edit::Ins { letter: b'N', .. }) => self.met.add("N told by ins"),
                 _ => {}
+            }
+            if let Verdict::Read(edit) = segment.verdict {
+                let far = edit.place().is_some_and(|place| place > 64);
+                self.met_if(far, "edit at a place above 64");
             }
             if segment.scanned {
                 self.met.add("scanned");
@@ -763,55 +875,78 @@ impl Run {
         }
     }
 
+    /// A label is read and converted.
+    fn check_label(&mut self, label: &[u8]) {
+        self.check_read_label(label);
+        self.convert_about(label);
+    }
+
     /// A label whole, cut, with bytes behind it and with a bit changed.
     fn labels_like(&mut self, label: &[u8]) {
-        self.check_read_label(label);
+        self.check_label(label);
         let length = self.rng.below(label.len() + 1);
         let length = self.rng.of(&[label.len() - 1, length, length.min(4)]);
-        self.check_read_label(&label[..length]);
+        self.check_label(&label[..length]);
         let more = 1 + self.rng.below(4);
         let mut longer = label.to_vec();
         longer.extend(self.rng.bytes(more));
-        self.check_read_label(&longer);
+        self.check_label(&longer);
         let (bits, random) = (8 * label.len(), self.rng.below(8 * label.len()));
         let near_end = bits - 1 - self.rng.below(8);
-        let place = self.rng.of(&[random, random, random % 19, near_end]);
+        let place = self.rng.of(&[random, random, random % 21, near_end]);
         longer[place / 8] ^= 0x80 >> (place % 8);
-        self.check_read_label(&longer);
+        self.check_label(&longer);
         longer.truncate(label.len());
-        self.check_read_label(&longer);
+        self.check_label(&longer);
     }
 
-    /// Labels of lengths and B by both editions, of equal lengths, of counts that are none, and random ones.
+    /// Labels of lengths and B by each edition, of equal lengths, of counts that are none, and random ones.
     fn labels(&mut self, lengths: &[u16], b: u32) {
-        let needed = strands::label_length(lengths);
+        let needed = strands::label_length(lengths, b);
         let room = self.rng.below(needed + 3);
         for room in [room, needed - 1, needed] {
             self.check_write_label(lengths, b, room);
         }
         let k = lengths.first().copied().unwrap_or(0);
         self.labels_like(&strands::label_1(k, b));
-        self.labels_like(&strands::label_2(lengths, b));
-        let count = self.rng.of(&[1, 1, 2, 3, lengths.len().max(1), 63, 64, 65]);
+        for edition in [2, 3] {
+            self.labels_like(&strands::label_listed(edition, lengths, b));
+        }
+        let edition = self.rng.of(&[2, 3]);
+        self.equal_labels(edition, k, lengths.len(), b);
+        self.uncounted_labels(edition, b);
+        self.random_labels();
+    }
+
+    /// Labels of an edition that lists equal lengths.
+    fn equal_labels(&mut self, edition: u32, k: u16, count: usize, b: u32) {
+        let count = self.rng.of(&[1, 1, 2, 3, count.max(1), 63, 64, 65]);
         let bad = strands::bad_length(&mut self.rng);
-        let length = self.rng.of(&[k, k, 2, 8, 64, bad]);
-        let sum = (count as u32 * length as u32 / 4) & 255;
-        let b_of_count = self.rng.of(&[b, sum]);
-        self.labels_like(&strands::label_2(&vec![length; count], b_of_count));
+        let length = self.rng.of(&[k, k, 2, 8, 64, 65, 256, bad]);
+        let sum = (count as u32 * length as u32 / 4) & 1023;
+        let b = self.rng.of(&[b, sum]);
+        self.labels_like(&strands::label_listed(edition, &vec![length; count], b));
+    }
+
+    /// Labels of no lengths, or of more than 64.
+    fn uncounted_labels(&mut self, edition: u32, b: u32) {
         let count = self.rng.of(&[0, 0, 65, 66, 127]);
         let mut many = self.rng.lengths(count, 2, 7);
         if self.rng.once_in(4) {
             strands::bad_lengths(&mut self.rng, &mut many);
         }
-        let b_of_many = self.rng.of(&[b, strands::sum(&many) / 4, 0, 129]);
-        self.labels_like(&strands::label_2(&many, b_of_many));
-        let count = 1 + self.rng.below(70);
+        let b = self.rng.of(&[b, strands::sum(&many) / 4, 0, 129, 513]);
+        self.labels_like(&strands::label_listed(edition, &many, b));
+    }
+
+    fn random_labels(&mut self) {
+        let count = 1 + self.rng.below(80);
         let mut random = self.rng.bytes(count);
-        self.check_read_label(&random);
-        random[0] = random[0] & 0x0F | self.rng.of(&[0x10, 0x20]);
-        self.check_read_label(&random);
+        self.check_label(&random);
+        random[0] = random[0] & 0x0F | self.rng.of(&[0x10, 0x20, 0x30]);
+        self.check_label(&random);
         let field = self.rng.next() as u32 & 0x0FFF_E000 | 1 << 28;
-        self.check_read_label(&field.to_be_bytes());
+        self.check_label(&field.to_be_bytes());
     }
 
     fn tallies(&mut self, counts: [u32; 3]) {
@@ -901,22 +1036,34 @@ impl Run {
         self.same(&call, counts, [got.clean, got.corrected, got.lost]);
     }
 
-    /// Every length of each buffer from 0 up to past the needed one.
+    /// Lengths of a buffer from 0 up to past the needed one; of very many some, and those next to both ends.
+    fn rooms(&mut self, needed: usize) -> Vec<usize> {
+        if needed <= MANY_ROOMS {
+            return (0..=needed + 2).collect();
+        }
+        let mut rooms: Vec<usize> = (0..10).chain(needed - 10..=needed + 2).collect();
+        rooms.extend((0..MANY_ROOMS / 4).map(|_| self.rng.below(needed)));
+        rooms
+    }
+
+    /// Each buffer shorter than needed, just as long and longer.
     fn short_buffers(&mut self, lengths: &[u16], b: u32, message: &[u8], letters: &[u8]) {
         let needed = strands::strand_length(lengths);
-        for room in 0..=needed + 2 {
+        for room in self.rooms(needed) {
             self.check_write(lengths, b, message, room);
         }
         let (bytes, sheet) = (b as usize, lengths.len().div_ceil(4));
-        for room in 0..=bytes + 2 {
+        for room in self.rooms(bytes) {
             self.check_read(lengths, b, letters, &[], (room, sheet));
         }
         for room in 0..=sheet + 2 {
             self.check_read(lengths, b, letters, &[], (bytes, room));
             self.check_read(lengths, b, letters, &[], (bytes + 1, room));
         }
-        for room in 0..=strands::label_length(lengths) + 2 {
+        for room in 0..=MOST_LABEL + 2 {
             self.check_write_label(lengths, b, room);
+            self.check_convert_label(&strands::label(lengths, b), room);
+            self.check_convert_label(&strands::label_listed(3, lengths, b), room);
         }
         let received = self.lend_strand(lengths, b, letters, &[]);
         let lines = received.needed();
@@ -924,7 +1071,7 @@ impl Run {
         for room in (0..12).chain([random]).chain(lines.max(14) - 2..lines + 3) {
             self.check_report(&received, room);
         }
-        for length in 0..=bytes + 2 {
+        for length in self.rooms(bytes) {
             let message = self.rng.bytes(length);
             self.check_write(lengths, b, &message, needed);
         }
@@ -945,12 +1092,12 @@ impl Run {
         }
         let often = self.rng.of(&[2, 3]);
         let taken = oracle::layout(&lengths, b, None).is_ok();
-        let bytes = b.min(300) as usize;
+        let bytes = b.min(600) as usize;
         let sheet = if taken { lengths.len().div_ceil(4) } else { 16 };
         let mut letters = if self.rng.once_in(often) {
             strands::overlong(&mut self.rng)
         } else {
-            let count = self.rng.of(&[0, 1, 20, 200, 2048]);
+            let count = self.rng.of(&[0, 1, 20, 200, 2049, 4096]);
             self.rng.letters(count)
         };
         if !letters.is_empty() && self.rng.once_in(often) {
@@ -961,13 +1108,13 @@ impl Run {
             false => needed + self.rng.below(3),
         };
         let (message_room, sheet_room) = (room(bytes), room(sheet));
-        let label_room = room(strands::label_length(&lengths));
+        let label_room = room(strands::label_length(&lengths, b));
         let lines_room = room(200);
         let message_length = room(bytes).min(bytes + 1);
         let out_room = room(if taken {
             strands::strand_length(&lengths)
         } else {
-            1200
+            ROOM
         });
         self.check_read(&lengths, b, &letters, &[], (message_room, sheet_room));
         let l = if taken { lengths.len() as u32 } else { 64 };
@@ -990,13 +1137,19 @@ impl Run {
             }
             return;
         }
-        let (mut lengths, mut b) = strands::layout(&mut self.rng, pairs);
+        let (mut lengths, mut b) = match self.kind {
+            Kind::LongSegments => strands::long_layout(&mut self.rng, pairs),
+            _ => strands::layout(&mut self.rng, pairs),
+        };
         let equal = lengths.iter().all(|&k| k == lengths[0]);
         self.met.add(if equal {
             "equal lengths"
         } else {
             "mixed lengths"
         });
+        let long = lengths.iter().any(|&k| k > strands::OLD_LENGTH);
+        self.met_if(long, "length above 64");
+        self.met_if(b > strands::OLD_BYTES, "B above 128");
         let message = strands::message(&mut self.rng, b);
         let needed = strands::strand_length(&lengths);
         let more = self.rng.of(&[0, 0, 1, 40]);
@@ -1016,7 +1169,7 @@ impl Run {
         let (bytes, sheet) = if taken {
             (b as usize, lengths.len().div_ceil(4))
         } else {
-            (200, 20)
+            (600, 20)
         };
         let more = (self.rng.of(&[0, 0, 1, 30]), self.rng.of(&[0, 0, 1, 30]));
         let rooms = (bytes + more.0, sheet + more.1);
@@ -1032,9 +1185,9 @@ impl Run {
         if taken {
             self.segments(&received, &read, got);
         } else {
-            let written = self.rng.of(&[message.len(), b.min(500) as usize]);
+            let written = self.rng.of(&[message.len(), b.min(600) as usize]);
             let message = self.rng.bytes(written);
-            self.check_write(&lengths, b, &message, 1200);
+            self.check_write(&lengths, b, &message, ROOM);
             self.check_segments(&received, &[0, 1, 64, u32::MAX]);
             self.check_lines(&received);
         }
@@ -1049,7 +1202,9 @@ impl Run {
     fn received(&mut self, lengths: &[u16], strand: &[u8]) -> Vec<u8> {
         let rng = &mut self.rng;
         match self.kind {
-            Kind::OneEdit | Kind::ShortBuffers => strands::one_edit(rng, lengths, strand),
+            Kind::OneEdit | Kind::LongSegments | Kind::ShortBuffers => {
+                strands::one_edit(rng, lengths, strand)
+            }
             Kind::Damaged(damage) => strands::damaged(rng, damage, lengths, strand),
             Kind::Overlong => strands::overlong(rng),
             Kind::Foreign => {
@@ -1068,15 +1223,18 @@ impl Run {
     /// Whether the one-edit conditions are kept; strands drawn by them keep them.
     fn keeps_conditions(&mut self, lengths: &[u16], strand: &[u8], letters: &[u8]) -> bool {
         let kept = conditions::kept(lengths, strand, letters);
-        let drawn = [Kind::Untouched, Kind::OneEdit, Kind::ShortBuffers].contains(&self.kind);
+        let drawn = matches!(
+            self.kind,
+            Kind::Untouched | Kind::OneEdit | Kind::LongSegments | Kind::ShortBuffers
+        );
         let (seed, case) = (self.seed, self.case);
         assert!(
             kept || !drawn,
             "seed {seed} case {case} breaks the conditions"
         );
-        if kept {
-            self.met.add("one-edit strand");
-        }
+        self.met_if(kept, "one-edit strand");
+        let long = kept && lengths.iter().any(|&k| k > strands::OLD_LENGTH);
+        self.met_if(long, "one-edit strand with a length above 64");
         kept
     }
 
@@ -1132,6 +1290,24 @@ fn written_of(answer: Result<usize, Refused>) -> Written {
     }
 }
 
+/// What a reading of a label answers: the lengths and B, or the number of the refusal.
+fn order_of(answer: Result<(&[u16], u32), u32>) -> Order {
+    let mut order = Order {
+        refusal: 0,
+        b: 0,
+        count: 0,
+        lengths: [0; 64],
+    };
+    match answer {
+        Ok((lengths, b)) => {
+            (order.b, order.count) = (b, lengths.len());
+            order.lengths[..lengths.len()].copy_from_slice(lengths);
+        }
+        Err(number) => order.refusal = number,
+    }
+    order
+}
+
 fn compare(seed: u64, count: u64, small: bool) {
     println!("outside: seed {seed}, {count} strands");
     let pairs = strands::pairs();
@@ -1164,7 +1340,7 @@ fn compare(seed: u64, count: u64, small: bool) {
 
 /// Reads by the library with buffers of the needed lengths.
 fn library_read(lengths: &[u16], b: u32, letters: &[u8]) -> (Counts, Vec<u8>, Vec<u8>) {
-    let mut message = vec![0xA5; b.min(200) as usize];
+    let mut message = vec![0xA5; b.min(600) as usize];
     let mut sheet = vec![0xA5; lengths.len().div_ceil(4)];
     let got = ffi::read(lengths, b, letters, &mut message, &mut sheet);
     (got, message, sheet)
@@ -1179,7 +1355,7 @@ fn library_report(lengths: &[u16], b: u32, letters: &[u8]) -> (Written, Vec<u8>)
 }
 
 fn library_write(lengths: &[u16], b: u32, message: &[u8]) -> (Written, Vec<u8>) {
-    let mut out = vec![0; 1500];
+    let mut out = vec![0; ROOM];
     let got = ffi::write(lengths, b, message, &mut out);
     out.truncate(got.length);
     (got, out)
@@ -1307,7 +1483,7 @@ impl Demand {
 fn demand_of(lengths: &[u16], message: &[u8]) -> Demand {
     let b = message.len() as u32;
     let (written, strand) = library_write(lengths, b, message);
-    let mut wanted = vec![0; 64];
+    let mut wanted = vec![0; ROOM];
     let answer = oracle::write(lengths, b, message, &mut wanted);
     wanted.truncate(answer.unwrap_or(0));
     if written.refusal != 0 || strand.is_empty() || strand != wanted {
@@ -1334,14 +1510,15 @@ fn demand_of(lengths: &[u16], message: &[u8]) -> Demand {
     demand
 }
 
-/// Every message of one byte, and some of two.
+/// Every message of one byte, some of two, and one each for segments longer than the old editions can carry.
 fn demand3() {
     let bytes: Vec<Vec<u8>> = (0..=255).map(|byte| vec![byte]).collect();
     let pairs: Vec<Vec<u8>> = (0..=255u8)
         .step_by(29)
         .map(|byte| vec![byte, byte.wrapping_mul(29).wrapping_add(7)])
         .collect();
-    let layouts: [(&[u16], &[Vec<u8>]); 8] = [
+    let long = |b: u32| -> Vec<u8> { (0..b).map(|i| (29 * i + 7) as u8).collect() };
+    let layouts: [(&[u16], &[Vec<u8>]); 10] = [
         (&[2, 2], &bytes),
         (&[4], &bytes),
         (&[2, 6], &pairs),
@@ -1350,6 +1527,8 @@ fn demand3() {
         (&[5, 3], &pairs),
         (&[2, 4, 2], &pairs[3..4]),
         (&[3, 2, 3], &pairs[5..6]),
+        (&[65, 3], &[long(17)]),
+        (&[256], &[long(64)]),
     ];
     for (lengths, messages) in layouts {
         let (mut strands, mut told, mut outside, mut lost) = (0, 0, 0, 0);
@@ -1424,22 +1603,27 @@ fn samples() {
         let lengths = strands::equal_lengths(k, 32);
         sample("letters", sample_write(&lengths, 32, &[7; 32]).1, letters);
     }
-    let longest = [&[9; 48][..], &[5; 16]].concat();
+    let longest = [&[33; 60][..], &[17; 4]].concat();
     sample(
         "most letters",
-        sample_write(&longest, 128, &[7; 128]).1,
-        1198,
+        sample_write(&longest, 512, &[7; 512]).1,
+        2874,
     );
-    let limits: [(&[u16], u32, u32); 14] = [
+    let limits: [(&[u16], u32, u32); 19] = [
         (&[1; 4], 1, 1),
         (&[2; 64], 32, 0),
         (&[2; 66], 33, 3),
         (&[2; 65], 32, 3),
         (&[3], 1, 3),
         (&[3, 3], 1, 3),
-        (&[65; 4], 65, 1),
+        (&[65; 4], 65, 0),
         (&[64; 8], 128, 0),
-        (&[64; 8], 129, 2),
+        (&[64; 8], 129, 3),
+        (&[43; 12], 129, 0),
+        (&[257; 4], 257, 1),
+        (&[2, 257], 513, 1),
+        (&[256; 8], 512, 0),
+        (&[256; 8], 513, 2),
         (&[], 1, 3),
         (&[], 0, 2),
         (&[2, 3, 2], 2, 3),
@@ -1451,12 +1635,15 @@ fn samples() {
         let message = vec![9; b as usize];
         sample(&name, sample_write(lengths, b, &message).0, number);
         sample(&name, library_read(lengths, b, b"ATCG").0.refusal, number);
-        sample(&name, label(lengths, b).0, number);
+        let label = ffi::write_label(lengths, b, &mut [0; MOST_LABEL]);
+        sample(&name, label.refusal, number);
     }
     let refusal = |letters: &[u8]| library_read(&[16; 8], 32, letters).0.refusal;
-    sample("2,048", refusal(&[b'A'; 2048]), 0);
-    sample("2,049", refusal(&[b'A'; 2049]), 4);
-    sample_labels();
+    sample("4,096", refusal(&[b'A'; 4096]), 0);
+    sample("4,097", refusal(&[b'A'; 4097]), 4);
+    labels::written();
+    labels::read();
+    labels::converted();
     sample_letters();
     sample_unknown();
     lines::told();
@@ -1526,54 +1713,6 @@ fn sample_unknown() {
     for (letters, place) in refused {
         let got = library_read(&[2, 2], 1, letters.as_bytes()).0;
         sample(letters, (got.refusal, got.place), (6, place));
-    }
-}
-
-/// A label by the library, with the byte behind it.
-fn label(lengths: &[u16], b: u32) -> (u32, String) {
-    let mut bytes = [0xEE; 60];
-    let got = ffi::write_label(lengths, b, &mut bytes);
-    (got.refusal, hex(&bytes[..got.length + 1]))
-}
-
-/// Labels of both editions, worked out by hand.
-fn sample_labels() {
-    let written = [
-        (&[16; 8][..], 32, "12040000EE"),
-        (&[2; 2], 1, "10402000EE"),
-        (&[4], 1, "10802000EE"),
-        // 0010 00000010 0000010 0000010 0000110 and seven zero bits.
-        (&[2, 6], 2, "2020408300EE"),
-        (&[2, 4, 2], 2, "2020608202EE"),
-    ];
-    for (lengths, b, wanted) in written {
-        let wanted = (0, String::from(wanted));
-        sample("label", label(lengths, b), wanted);
-    }
-    let read: [(&[u8], u32, u32, &[u16]); 12] = [
-        (&[0x10, 0x40, 0x20, 0x00], 0, 1, &[2, 2]),
-        (&[0x20, 0x20, 0x40, 0x83, 0x00], 0, 2, &[2, 6]),
-        // A byte more is not read, a byte less is too few.
-        (&[0x20, 0x20, 0x40, 0x83, 0x00, 0xFF], 0, 2, &[2, 6]),
-        (&[0x20, 0x20, 0x40, 0x83], 5, 0, &[]),
-        // No count, no lengths, no edition.
-        (&[0x20, 0x20], 5, 0, &[]),
-        (&[0x20, 0x20, 0x00], 3, 0, &[]),
-        (&[0x30, 0x20, 0x40], 5, 0, &[]),
-        (&[0x30, 0x20, 0x40, 0x00], 8, 0, &[]),
-        // A bit behind the last length, equal lengths, lengths 1 and 0.
-        (&[0x20, 0x20, 0x40, 0x83, 0x01], 8, 0, &[]),
-        (&[0x20, 0x20, 0x41, 0x02, 0x00], 8, 0, &[]),
-        (&[0x20, 0x20, 0x40, 0x43, 0x00], 1, 0, &[]),
-        (&[0x20, 0x20, 0x40, 0x80, 0x00], 1, 0, &[]),
-    ];
-    for (bytes, refusal, b, lengths) in read {
-        let got = ffi::read_label(bytes);
-        let mut wanted = [0; 64];
-        wanted[..lengths.len()].copy_from_slice(lengths);
-        let got = (got.refusal, got.b, got.count, got.lengths);
-        let wanted = (refusal, b, lengths.len(), wanted);
-        sample(&format!("label {}", hex(bytes)), got, wanted);
     }
 }
 

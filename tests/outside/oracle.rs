@@ -25,6 +25,17 @@ pub enum Edit {
     Ins { place: usize, letter: u8 },
 }
 
+impl Edit {
+    pub fn place(self) -> Option<usize> {
+        match self {
+            Edit::None => None,
+            Edit::Sub { place, .. } | Edit::Del { place, .. } | Edit::Ins { place, .. } => {
+                Some(place)
+            }
+        }
+    }
+}
+
 /// The reader's verdict on one segment; unknown is a piece with unknown letters that equals its segment, these taken as A.
 #[derive(Clone, Copy, Debug, PartialEq, Eq)]
 pub enum Verdict {
@@ -68,18 +79,39 @@ pub struct Tally {
     pub lost: u32,
 }
 
+/// The most that a length and B may be.
+#[derive(Clone, Copy)]
+struct Most {
+    k: u16,
+    b: u32,
+}
+
+const MOST: Most = Most { k: 256, b: 512 };
+
+/// The most in a label of the old editions, 1 and 2.
+const MOST_OLD: Most = Most { k: 64, b: 128 };
+
+/// The letters that a received strand may have.
+const MOST_LETTERS: usize = 4096;
+
 fn refuse<T>(number: u32) -> Result<T, Refused> {
     Err(Refused { number, place: 0 })
 }
 
-/// Tests 1, 2 and 3; the message's length is tested where there is one.
-pub fn layout(lengths: &[u16], b: u32, message: Option<usize>) -> Result<Layout, Refused> {
-    if lengths.iter().any(|k| !(2..=64).contains(k)) {
+/// Tests 1 and 2 of lengths and B.
+fn limits(lengths: &[u16], b: u32, most: Most) -> Result<(), Refused> {
+    if lengths.iter().any(|k| !(2..=most.k).contains(k)) {
         return refuse(1);
     }
-    if !(1..=128).contains(&b) {
+    if !(1..=most.b).contains(&b) {
         return refuse(2);
     }
+    Ok(())
+}
+
+/// Tests 1, 2 and 3; the message's length is tested where there is one.
+pub fn layout(lengths: &[u16], b: u32, message: Option<usize>) -> Result<Layout, Refused> {
+    limits(lengths, b, MOST)?;
     let b = b as usize;
     if message.is_some_and(|length| length != b) {
         return refuse(2);
@@ -564,7 +596,7 @@ fn strand_of(letters: &[u8]) -> Result<Strand<'_>, Refused> {
 
 /// Test 4.
 fn not_overlong(letters: &[u8]) -> Result<(), Refused> {
-    if letters.len() > 2048 {
+    if letters.len() > MOST_LETTERS {
         return refuse(4);
     }
     Ok(())
@@ -676,7 +708,7 @@ fn equal(lengths: &[u16]) -> bool {
 }
 
 /// Bits put together, the most significant first.
-fn push_bits(bits: &mut Vec<bool>, number: u32, width: u32) {
+fn push_bits(bits: &mut Vec<bool>, number: u32, width: usize) {
     bits.extend((0..width).rev().map(|bit| number >> bit & 1 == 1));
 }
 
@@ -694,41 +726,67 @@ fn bits_of_bytes(bytes: &[u8]) -> Vec<bool> {
     bits
 }
 
-/// Writes the label of a layout and B; hands back its number of bytes.
-pub fn write_label(lengths: &[u16], b: u32, out: &mut [u8]) -> Result<usize, Refused> {
-    layout(lengths, b, None)?;
+/// The bits of B and of each length in an edition that lists the lengths; none for one that does not.
+fn listed(edition: u32) -> Option<(usize, usize)> {
+    match edition {
+        2 => Some((8, 7)),
+        3 => Some((10, 9)),
+        _ => None,
+    }
+}
+
+/// The oldest edition that can carry an order.
+fn oldest(lengths: &[u16], b: u32) -> u32 {
+    match limits(lengths, b, MOST_OLD) {
+        Ok(()) if equal(lengths) => 1,
+        Ok(()) => 2,
+        Err(_) => 3,
+    }
+}
+
+/// The label of an order in an edition that can carry it.
+fn label(edition: u32, lengths: &[u16], b: u32) -> Vec<u8> {
     let mut bits = Vec::new();
-    if equal(lengths) {
-        push_bits(&mut bits, 1, 4);
+    push_bits(&mut bits, edition, 4);
+    if let Some((b_bits, k_bits)) = listed(edition) {
+        push_bits(&mut bits, b, b_bits);
+        push_bits(&mut bits, lengths.len() as u32, 7);
+        for &k in lengths {
+            push_bits(&mut bits, k as u32, k_bits);
+        }
+        bits.resize(bits.len().next_multiple_of(8), false);
+    } else {
         push_bits(&mut bits, lengths[0] as u32, 7);
         push_bits(&mut bits, b, 8);
         push_bits(&mut bits, 0, 13);
-    } else {
-        push_bits(&mut bits, 2, 4);
-        push_bits(&mut bits, b, 8);
-        push_bits(&mut bits, lengths.len() as u32, 7);
-        for &k in lengths {
-            push_bits(&mut bits, k as u32, 7);
-        }
-        bits.resize(bits.len().next_multiple_of(8), false);
     }
-    let label: Vec<u8> = bits.chunks(8).map(|x| number_at(x, 0, 8) as u8).collect();
+    bits.chunks(8).map(|x| number_at(x, 0, 8) as u8).collect()
+}
+
+/// Puts a label to the front of a buffer; hands back its number of bytes.
+fn put_label(label: &[u8], out: &mut [u8]) -> Result<usize, Refused> {
     let Some(front) = out.get_mut(..label.len()) else {
         return refuse(5);
     };
-    front.copy_from_slice(&label);
+    front.copy_from_slice(label);
     Ok(label.len())
+}
+
+/// Writes the label of a layout and B; hands back its number of bytes.
+pub fn write_label(lengths: &[u16], b: u32, out: &mut [u8]) -> Result<usize, Refused> {
+    layout(lengths, b, None)?;
+    put_label(&label(oldest(lengths, b), lengths, b), out)
 }
 
 /// The bytes that a label needs by its own edition and count; none where these are not there.
 pub fn label_needs(bytes: &[u8]) -> Option<usize> {
     let edition = bytes.first()? >> 4;
-    if edition != 2 {
+    let Some((b_bits, k_bits)) = listed(edition as u32) else {
         return Some(4);
-    }
+    };
     let front = bits_of_bytes(bytes.get(..3)?);
-    let count = number_at(&front, 12, 7) as usize;
-    Some((4 + 8 + 7 + 7 * count).div_ceil(8))
+    let count = number_at(&front, 4 + b_bits, 7) as usize;
+    Some((4 + b_bits + 7 + k_bits * count).div_ceil(8))
 }
 
 /// Reads a layout and B from a label.
@@ -738,40 +796,63 @@ pub fn read_label(bytes: &[u8]) -> Result<(Vec<u16>, u32), Refused> {
         return refuse(5);
     };
     let bits = bits_of_bytes(label);
-    match number_at(&bits, 0, 4) {
-        1 => {
-            let k = number_at(&bits, 4, 7);
-            let b = number_at(&bits, 11, 8);
-            if bits[19..].contains(&true) {
-                return refuse(8);
-            }
-            if !(2..=64).contains(&k) {
-                return refuse(1);
-            }
-            if !(1..=128).contains(&b) {
-                return refuse(2);
-            }
-            if !(4 * b).is_multiple_of(k) || 4 * b / k > 64 {
-                return refuse(3);
-            }
-            Ok((vec![k as u16; (4 * b / k) as usize], b))
-        }
-        2 => {
-            let b = number_at(&bits, 4, 8);
-            let count = number_at(&bits, 12, 7) as usize;
-            let length = |i: usize| number_at(&bits, 19 + 7 * i, 7) as u16;
-            let lengths: Vec<u16> = (0..count).map(length).collect();
-            if bits[19 + 7 * count..].contains(&true) {
-                return refuse(8);
-            }
-            if (1..=64).contains(&count) && equal(&lengths) {
-                return refuse(8);
-            }
-            layout(&lengths, b, None)?;
-            Ok((lengths, b))
-        }
-        _ => refuse(8),
+    let edition = number_at(&bits, 0, 4);
+    if edition == 1 {
+        return read_one_length(&bits);
     }
+    let Some(widths) = listed(edition) else {
+        return refuse(8);
+    };
+    let (lengths, b) = read_listed(&bits, widths)?;
+    if edition == 2 {
+        if (1..=64).contains(&lengths.len()) && equal(&lengths) {
+            return refuse(8);
+        }
+        limits(&lengths, b, MOST_OLD)?;
+    }
+    layout(&lengths, b, None)?;
+    Ok((lengths, b))
+}
+
+/// Edition 1: one length for all, and B.
+fn read_one_length(bits: &[bool]) -> Result<(Vec<u16>, u32), Refused> {
+    let k = number_at(bits, 4, 7);
+    let b = number_at(bits, 11, 8);
+    if bits[19..].contains(&true) {
+        return refuse(8);
+    }
+    limits(&[k as u16], b, MOST_OLD)?;
+    if !(4 * b).is_multiple_of(k) || 4 * b / k > 64 {
+        return refuse(3);
+    }
+    Ok((vec![k as u16; (4 * b / k) as usize], b))
+}
+
+/// The lengths and B of an edition that lists them, if the bits behind the last length are zeros.
+fn read_listed(
+    bits: &[bool],
+    (b_bits, k_bits): (usize, usize),
+) -> Result<(Vec<u16>, u32), Refused> {
+    let b = number_at(bits, 4, b_bits);
+    let count = number_at(bits, 4 + b_bits, 7) as usize;
+    let from = 4 + b_bits + 7;
+    let length = |i: usize| number_at(bits, from + k_bits * i, k_bits) as u16;
+    if bits[from + k_bits * count..].contains(&true) {
+        return refuse(8);
+    }
+    Ok(((0..count).map(length).collect(), b))
+}
+
+/// Writes a label of an old edition in edition 3, one of edition 3 in the old edition that can carry it.
+/// Hands back its number of bytes.
+pub fn convert_label(bytes: &[u8], out: &mut [u8]) -> Result<usize, Refused> {
+    let (lengths, b) = read_label(bytes)?;
+    let edition = match (bytes[0] >> 4, oldest(&lengths, b)) {
+        (3, 3) => return refuse(13),
+        (3, oldest) => oldest,
+        _ => 3,
+    };
+    put_label(&label(edition, &lengths, b), out)
 }
 
 /// Adds the counts of one strand; all four counts change or none.

@@ -6,7 +6,7 @@ mod oracle;
 mod program;
 
 use oracle::Refused;
-use program::{hex, label_of, printed, reading, reporting, two_lines, writing};
+use program::{converting, hex, label_of, printed, reading, reporting, two_lines, writing};
 use std::ffi::OsString;
 use std::io::{Read, Write};
 use std::os::unix::ffi::OsStringExt;
@@ -44,7 +44,10 @@ fn input() -> Vec<u8> {
 }
 
 fn usage() -> ! {
-    eprintln!("usage: print [-v | report | write] LABEL [STRAND | MESSAGE] | print [-v | report | write] -");
+    eprintln!(
+        "usage: print [-v | report | write | convert] LABEL [STRAND | MESSAGE] | \
+         print [-v | report | write | convert] -"
+    );
     exit(2);
 }
 
@@ -60,6 +63,7 @@ fn main() {
         [b"-v", rest @ ..] => (reading_told, rest),
         [b"report", rest @ ..] => (reporting, rest),
         [b"write", rest @ ..] => (writing, rest),
+        [b"convert", rest @ ..] => (|label, _| converting(label), rest),
         rest => (reading, rest),
     };
     let lines;

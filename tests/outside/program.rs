@@ -6,6 +6,7 @@ use std::process::{Command, Stdio};
 
 pub const READER: &str = "target/bin/read_strand";
 pub const REPORTER: &str = "target/bin/report_strand";
+pub const CONVERTER: &str = "target/bin/convert_label";
 
 /// The first two lines of an input; a missing one is empty.
 pub fn two_lines(input: &[u8]) -> (&[u8], &[u8]) {
@@ -32,14 +33,24 @@ fn refuse<T>(number: u32) -> Result<T, Refused> {
     Err(Refused { number, place: 0 })
 }
 
-/// Layout and B of a line that holds exactly the bytes its label needs; all else is refused by 8.
-pub fn label_of(line: &[u8]) -> Result<(Vec<u16>, u32), Refused> {
+/// The bytes of a line that holds exactly those its label needs; all else is refused by 8.
+fn label_bytes(line: &[u8]) -> Result<Vec<u8>, Refused> {
     match bytes_of(line) {
-        Some(label) if oracle::label_needs(&label) == Some(label.len()) => {
-            oracle::read_label(&label)
-        }
+        Some(label) if oracle::label_needs(&label) == Some(label.len()) => Ok(label),
         _ => refuse(8),
     }
+}
+
+/// Layout and B of a line with a label.
+pub fn label_of(line: &[u8]) -> Result<(Vec<u16>, u32), Refused> {
+    oracle::read_label(&label_bytes(line)?)
+}
+
+/// The line of the converting program.
+pub fn converting(label: &[u8]) -> Result<String, Refused> {
+    let mut converted = [0; 75];
+    let count = oracle::convert_label(&label_bytes(label)?, &mut converted)?;
+    Ok(format!("{}\n", hex(&converted[..count])))
 }
 
 /// The two lines of the reading program.
@@ -65,7 +76,7 @@ pub fn writing(label: &[u8], message: &[u8]) -> Result<String, Refused> {
     let Some(message) = bytes_of(message) else {
         return refuse(2);
     };
-    let mut strand = [0; 2048];
+    let mut strand = [0; 2874];
     let letters = oracle::write(&lengths, b, &message, &mut strand)?;
     Ok(format!("{}\n", strand[..letters].escape_ascii()))
 }

@@ -1,17 +1,20 @@
-//! Runs the programs that take a label and a strand, on random inputs.
+//! Runs the programs that take a label and a strand, and the one that takes a label alone, on random inputs.
 
 use crate::oracle;
-use crate::program::{self, hex, READER, REPORTER};
+use crate::program::{self, hex, CONVERTER, READER, REPORTER};
 use crate::strands::{self, Rng};
 use std::process::exit;
 
-/// The label of a layout and B, in its own edition or the other one.
+/// What may stand behind the last line that is read.
+const BEHIND: [&[u8]; 4] = [b"", b"\n", b"\n\n", b"\nATCG\nmore\n"];
+
+/// The label of a layout and B: in its own edition, in edition 3 or in any.
 fn label(rng: &mut Rng, lengths: &[u16], b: u32) -> Vec<u8> {
-    let equal = lengths.windows(2).all(|two| two[0] == two[1]);
-    if equal != rng.once_in(12) {
-        strands::label_1(lengths.first().copied().unwrap_or(0), b)
-    } else {
-        strands::label_2(lengths, b)
+    match rng.below(12) {
+        0 => strands::label_1(lengths.first().copied().unwrap_or(0), b),
+        1 => strands::label_listed(2, lengths, b),
+        2..=5 => strands::label_listed(3, lengths, b),
+        _ => strands::label(lengths, b),
     }
 }
 
@@ -20,7 +23,7 @@ fn bad_label(rng: &mut Rng, lengths: &[u16], b: u32) -> Vec<u8> {
     let (mut lengths, mut b) = (lengths.to_vec(), b);
     match rng.below(3) {
         0 => strands::bad_lengths(rng, &mut lengths),
-        1 => b = rng.of(&[0, 129, 255]),
+        1 => b = rng.of(&[0, 129, 255, 513, 1023]),
         _ => (lengths, b) = strands::bad_cut(rng),
     }
     label(rng, &lengths, b)
@@ -53,32 +56,45 @@ fn received(rng: &mut Rng, lengths: &[u16], strand: &[u8]) -> Vec<u8> {
     letters
 }
 
+/// A line with the label of a layout and B, or with one that is none, in digits of either case.
+fn label_line(rng: &mut Rng, lengths: &[u16], b: u32) -> Vec<u8> {
+    let label = match rng.below(4) {
+        0 => bad_label(rng, lengths, b),
+        _ => label(rng, lengths, b),
+    };
+    let mut line = hex(&label).into_bytes();
+    for digit in &mut line {
+        if rng.once_in(2) {
+            digit.make_ascii_lowercase();
+        }
+    }
+    if rng.once_in(12) {
+        bad_digits(rng, &mut line);
+    }
+    line
+}
+
 /// Two lines, or one, and what may stand behind them.
 fn input(rng: &mut Rng, pairs: &[(u32, u32)]) -> Vec<u8> {
     let (lengths, b) = strands::layout(rng, pairs);
     let message = strands::message(rng, b);
     let mut strand = vec![0; strands::strand_length(&lengths)];
     oracle::write(&lengths, b, &message, &mut strand).expect("a taken message");
-    let label = match rng.below(4) {
-        0 => bad_label(rng, &lengths, b),
-        _ => label(rng, &lengths, b),
-    };
-    let mut input = hex(&label).into_bytes();
-    for digit in &mut input {
-        if rng.once_in(2) {
-            digit.make_ascii_lowercase();
-        }
-    }
-    if rng.once_in(12) {
-        bad_digits(rng, &mut input);
-    }
+    let mut input = label_line(rng, &lengths, b);
     if rng.once_in(20) {
         return input;
     }
     input.push(b'\n');
     input.extend(received(rng, &lengths, &strand));
-    let behind: [&[u8]; 4] = [b"", b"\n", b"\n\n", b"\nATCG\nmore\n"];
-    input.extend(rng.of(&behind));
+    input.extend(rng.of(&BEHIND));
+    input
+}
+
+/// A line with a label, and what may stand behind it.
+fn label_input(rng: &mut Rng, pairs: &[(u32, u32)]) -> Vec<u8> {
+    let (lengths, b) = strands::layout(rng, pairs);
+    let mut input = label_line(rng, &lengths, b);
+    input.extend(rng.of(&BEHIND));
     input
 }
 
@@ -87,10 +103,37 @@ fn refusal(printed: &str) -> Option<&str> {
     printed.strip_prefix("refused ")
 }
 
-/// The reporting program prints what the oracle does, and refuses what the reading program refuses, by the same line.
+/// How often each number was met; 0 is taken.
+struct Met([u64; 14]);
+
+impl Met {
+    fn add(&mut self, printed: &str) {
+        let number = refusal(printed).and_then(|number| number.trim_end().parse().ok());
+        self.0[number.unwrap_or(0usize)] += 1;
+    }
+
+    /// Tells how often the numbers were met, and ends the run where one of them never was.
+    fn tell(&self, what: &str, numbers: &[usize]) {
+        let refused: Vec<u64> = numbers.iter().map(|&number| self.0[number]).collect();
+        let taken = self.0[0];
+        println!("{what} agreed: {taken} taken, refused by {numbers:?}: {refused:?}");
+        if taken == 0 || refused.contains(&0) {
+            println!("an answer was never met");
+            exit(1);
+        }
+    }
+}
+
+/// The programs print what the oracle does.
 pub fn agree(seed: u64, count: u64) {
+    strands_agree(seed, count);
+    labels_agree(seed, count);
+}
+
+/// The reporting program prints what the oracle does, and refuses what the reading program refuses, by the same line.
+fn strands_agree(seed: u64, count: u64) {
     let pairs = strands::pairs();
-    let mut met = [0; 10];
+    let mut met = Met([0; 14]);
     for case in 0..count {
         let input = input(&mut Rng::new(seed, case), &pairs);
         let (read, told) = (program::run(READER, &input), program::run(REPORTER, &input));
@@ -104,17 +147,31 @@ pub fn agree(seed: u64, count: u64) {
             );
             exit(1);
         }
-        let number = refusal(&told).and_then(|number| number.trim_end().parse().ok());
-        met[number.unwrap_or(0usize)] += 1;
+        met.add(&told);
     }
-    let refused = [1, 2, 3, 4, 6, 8].map(|number| met[number]);
-    println!(
-        "programs: seed {seed}, {count} inputs agreed: \
-         {} taken, refused by 1, 2, 3, 4, 6 and 8: {refused:?}",
-        met[0]
-    );
-    if met[0] == 0 || refused.contains(&0) {
-        println!("an answer was never met");
-        exit(1);
+    let what = format!("programs: seed {seed}, {count} inputs");
+    met.tell(&what, &[1, 2, 3, 4, 6, 8]);
+}
+
+/// The converting program prints what the oracle does.
+fn labels_agree(seed: u64, count: u64) {
+    let pairs = strands::pairs();
+    let mut met = Met([0; 14]);
+    for case in 0..count {
+        let input = label_input(&mut Rng::new(seed, case), &pairs);
+        let converted = program::run(CONVERTER, &input);
+        let (label, _) = program::two_lines(&input);
+        let wanted = program::printed(program::converting(label));
+        if converted != wanted {
+            println!(
+                "disagreement: seed {seed} case {case} input {} oracle {wanted:?} \
+                 program {converted:?}",
+                input.escape_ascii()
+            );
+            exit(1);
+        }
+        met.add(&converted);
     }
+    let what = format!("convert_label: seed {seed}, {count} inputs");
+    met.tell(&what, &[1, 2, 3, 8, 13]);
 }

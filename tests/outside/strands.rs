@@ -6,6 +6,15 @@ pub const LETTERS: &[u8] = b"ATCGN";
 /// The unknown letter.
 const UNKNOWN: u8 = b'N';
 
+/// The most that a length, B and the letters of a received strand may be.
+pub const MOST_LENGTH: u16 = 256;
+pub const MOST_BYTES: u32 = 512;
+pub const MOST_LETTERS: usize = 4096;
+
+/// The most that a length and B may be in a label of the old editions, 1 and 2.
+pub const OLD_LENGTH: u16 = 64;
+pub const OLD_BYTES: u32 = 128;
+
 /// What the letters of one strand's damage are drawn from, often without the unknown one.
 const DRAWN: [&[u8]; 5] = [b"ATCG", b"ATCG", LETTERS, b"ATCGNNNN", b"ATCGNNNN"];
 
@@ -83,8 +92,8 @@ impl Rng {
 /// All pairs of k and B whose equal lengths are taken.
 pub fn pairs() -> Vec<(u32, u32)> {
     let mut pairs = Vec::new();
-    for k in 2..=64 {
-        for b in 1..=128 {
+    for k in 2..=MOST_LENGTH as u32 {
+        for b in 1..=MOST_BYTES {
             if 4 * b % k == 0 && 4 * b / k <= 64 {
                 pairs.push((k, b));
             }
@@ -93,8 +102,8 @@ pub fn pairs() -> Vec<(u32, u32)> {
     pairs
 }
 
-/// Pairs at the ends of the limits.
-const EXTREME: [(u32, u32); 16] = [
+/// Pairs at the ends of the limits, and at those of the old editions.
+const EXTREME: [(u32, u32); 26] = [
     (2, 1),
     (2, 32),
     (3, 3),
@@ -111,6 +120,16 @@ const EXTREME: [(u32, u32); 16] = [
     (63, 63),
     (64, 16),
     (64, 128),
+    (32, 512),
+    (33, 495),
+    (43, 129),
+    (65, 65),
+    (128, 128),
+    (128, 160),
+    (129, 129),
+    (255, 255),
+    (256, 64),
+    (256, 512),
 ];
 
 /// The equal lengths of k and B.
@@ -118,17 +137,23 @@ pub fn equal_lengths(k: u32, b: u32) -> Vec<u16> {
     vec![k as u16; (4 * b / k) as usize]
 }
 
+/// One of the pairs up to this k and this B.
+fn pair_up_to(rng: &mut Rng, pairs: &[(u32, u32)], most_k: u32, most_b: u32) -> (u32, u32) {
+    loop {
+        let (k, b) = rng.of(pairs);
+        if k <= most_k && b <= most_b {
+            return (k, b);
+        }
+    }
+}
+
 /// Equal lengths and their B, with weight on small and on extreme ones.
 fn equal(rng: &mut Rng, pairs: &[(u32, u32)]) -> (Vec<u16>, u32) {
-    let (k, b) = match rng.below(8) {
-        0..=2 => loop {
-            let (k, b) = rng.of(pairs);
-            if k <= 10 && b <= 10 {
-                break (k, b);
-            }
-        },
-        3..=4 => rng.of(&EXTREME),
-        5 => rng.of(&[(2, 1), (2, 2), (2, 3), (3, 3), (4, 2), (4, 3), (6, 3)]),
+    let (k, b) = match rng.below(16) {
+        0..=5 => pair_up_to(rng, pairs, 10, 10),
+        6..=8 => rng.of(&EXTREME),
+        9..=11 => rng.of(&[(2, 1), (2, 2), (2, 3), (3, 3), (4, 2), (4, 3), (6, 3)]),
+        12..=13 => pair_up_to(rng, pairs, OLD_LENGTH as u32, OLD_BYTES),
         _ => rng.of(pairs),
     };
     (equal_lengths(k, b), b)
@@ -136,7 +161,7 @@ fn equal(rng: &mut Rng, pairs: &[(u32, u32)]) -> (Vec<u16>, u32) {
 
 /// Lengths at the ends of the limits, in any order: many short, one long, the most letters.
 fn extreme_lengths(rng: &mut Rng) -> Vec<u16> {
-    let parts: &[(usize, u16)] = match rng.below(8) {
+    let parts: &[(usize, u16)] = match rng.below(16) {
         0 => &[(63, 2), (1, 6)],
         1 => &[(63, 2), (1, 62)],
         2 => &[(48, 9), (16, 5)],
@@ -144,7 +169,15 @@ fn extreme_lengths(rng: &mut Rng) -> Vec<u16> {
         4 => &[(2, 2), (1, 64)],
         5 => &[(5, 2), (3, 64), (1, 2)],
         6 => &[(32, 3), (32, 2)],
-        _ => &[(20, 2), (1, 64), (1, 63), (1, 33)],
+        7 => &[(20, 2), (1, 64), (1, 63), (1, 33)],
+        8 => &[(60, 33), (4, 17)],
+        9 => &[(7, 256), (1, 254), (1, 2)],
+        10 => &[(2, 2), (1, 256)],
+        11 => &[(63, 2), (1, 254)],
+        12 => &[(4, 2), (1, 65), (1, 3)],
+        13 => &[(8, 64), (2, 2)],
+        14 => &[(1, 128), (1, 129), (1, 255)],
+        _ => &[(5, 2), (1, 256), (1, 65), (1, 129)],
     };
     let each = |&(count, length): &(usize, u16)| std::iter::repeat_n(length, count);
     let mut lengths: Vec<u16> = parts.iter().flat_map(each).collect();
@@ -152,20 +185,21 @@ fn extreme_lengths(rng: &mut Rng) -> Vec<u16> {
     lengths
 }
 
-/// Lengths of some shape, whatever their sum.
-fn shaped_lengths(rng: &mut Rng) -> Vec<u16> {
+/// Lengths of some shape up to this one, whatever their sum.
+fn shaped_lengths(rng: &mut Rng, most: u16) -> Vec<u16> {
     let any = 1 + rng.below(64);
     let count = rng.of(&[2, 3, 4, 5, 8, 12, 64, any]);
-    let (short, long) = (rng.lengths(count, 2, 8), rng.lengths(count, 9, 64));
+    let (short, long) = (rng.lengths(count, 2, 8), rng.lengths(count, 9, most));
     let ends = 1 + rng.below(3);
     let at_end = |i: usize| i < ends || i + ends >= count;
     match rng.below(7) {
-        0 => rng.lengths(count, 2, 64),
+        0 => rng.lengths(count, 2, most),
         1 => rng.lengths(count, 2, 12),
         2 => short,
         // On both sides of a change of t.
         3 => (0..count)
-            .map(|_| rng.of(&[2, 3, 4, 5, 8, 9, 16, 17, 32, 33, 64]))
+            .map(|_| rng.of(&[2, 3, 4, 5, 8, 9, 16, 17, 32, 33, 64, 65, 128, 129, 256]))
+            .map(|length| most.min(length))
             .collect(),
         4 => (0..count)
             .map(|i| if at_end(i) { short[i] } else { long[i] })
@@ -179,14 +213,14 @@ fn shaped_lengths(rng: &mut Rng) -> Vec<u16> {
     }
 }
 
-/// Makes lengths sum to 4B: the last are dropped, or some made longer.
-fn fitted(rng: &mut Rng, mut lengths: Vec<u16>) -> (Vec<u16>, u32) {
-    while sum(&lengths) > 512 {
+/// Makes lengths sum to 4B, at most to this: the last are dropped, or some made longer.
+fn fitted(rng: &mut Rng, mut lengths: Vec<u16>, most_b: u32) -> (Vec<u16>, u32) {
+    while sum(&lengths) > 4 * most_b {
         lengths.pop();
     }
     while !sum(&lengths).is_multiple_of(4) {
         let place = rng.below(lengths.len());
-        lengths[place] = 64.min(lengths[place] + 1);
+        lengths[place] = MOST_LENGTH.min(lengths[place] + 1);
     }
     let b = sum(&lengths) / 4;
     (lengths, b)
@@ -198,19 +232,24 @@ pub fn sum(lengths: &[u16]) -> u32 {
 
 /// Lengths of their own for each segment, and their B; small and extreme ones often.
 fn mixed(rng: &mut Rng) -> (Vec<u16>, u32) {
-    let lengths = match rng.below(8) {
-        0..=2 => {
+    let mut most_b = MOST_BYTES;
+    let lengths = match rng.below(16) {
+        0..=5 => {
             let count = 2 + rng.below(4);
             rng.lengths(count, 2, 9)
         }
-        3..=4 => extreme_lengths(rng),
-        5 => {
+        6..=8 => extreme_lengths(rng),
+        9..=11 => {
             let small: [&[u16]; 6] = [&[2, 6], &[6, 2], &[3, 5], &[5, 3], &[2, 4, 2], &[3, 2, 3]];
             rng.of(&small).to_vec()
         }
-        _ => shaped_lengths(rng),
+        12..=13 => {
+            most_b = OLD_BYTES;
+            shaped_lengths(rng, OLD_LENGTH)
+        }
+        _ => shaped_lengths(rng, MOST_LENGTH),
     };
-    fitted(rng, lengths)
+    fitted(rng, lengths, most_b)
 }
 
 /// A taken layout and its B: equal lengths or mixed ones.
@@ -219,6 +258,16 @@ pub fn layout(rng: &mut Rng, pairs: &[(u32, u32)]) -> (Vec<u16>, u32) {
         equal(rng, pairs)
     } else {
         mixed(rng)
+    }
+}
+
+/// A taken layout with a length above those of the old editions, and its B.
+pub fn long_layout(rng: &mut Rng, pairs: &[(u32, u32)]) -> (Vec<u16>, u32) {
+    loop {
+        let (lengths, b) = layout(rng, pairs);
+        if lengths.iter().any(|&k| k > OLD_LENGTH) {
+            return (lengths, b);
+        }
     }
 }
 
@@ -392,7 +441,7 @@ pub enum Damage {
     Truncated,
     /// No letters.
     Empty,
-    /// Up to 2,048 letters.
+    /// Up to 4,096 letters.
     Long,
     /// One segment badly hit, the others whole.
     OneBad,
@@ -575,7 +624,7 @@ fn unknown(rng: &mut Rng, letters: &mut [u8]) {
             undecided(rng, letters, most);
         }
         3 => {
-            let most = rng.of(&[2, 4, 20, 2048]).min(letters.len() - from);
+            let most = rng.of(&[2, 4, 20, MOST_LETTERS]).min(letters.len() - from);
             let count = rng.below(most + 1);
             letters[from..from + count].fill(UNKNOWN);
         }
@@ -600,7 +649,7 @@ fn unknown_behind(rng: &mut Rng, lengths: &[u16], segments: &mut [Vec<u8>]) {
     }
 }
 
-/// A badly damaged strand of at most 2,048 letters.
+/// A badly damaged strand of at most 4,096 letters.
 pub fn damaged(rng: &mut Rng, damage: Damage, lengths: &[u16], strand: &[u8]) -> Vec<u8> {
     let mut received = strand.to_vec();
     let mut segments = cut(lengths, strand);
@@ -619,7 +668,7 @@ pub fn damaged(rng: &mut Rng, damage: Damage, lengths: &[u16], strand: &[u8]) ->
         Damage::CutOut => {
             for _ in 0..=rng.below(3) {
                 let from = rng.below(received.len() + 1);
-                let most = (received.len() - from).min(rng.of(&[3, 9, 20, 2048]));
+                let most = (received.len() - from).min(rng.of(&[3, 9, 20, MOST_LETTERS]));
                 let count = rng.below(most + 1);
                 received.drain(from..from + count);
             }
@@ -645,7 +694,7 @@ pub fn damaged(rng: &mut Rng, damage: Damage, lengths: &[u16], strand: &[u8]) ->
             }
         }
         Damage::Random => {
-            let most = rng.of(&[30, 400, 2048]);
+            let most = rng.of(&[30, 400, MOST_LETTERS]);
             let count = rng.below(most + 1);
             received = rng.letters(count);
         }
@@ -666,7 +715,7 @@ pub fn damaged(rng: &mut Rng, damage: Damage, lengths: &[u16], strand: &[u8]) ->
         }
         Damage::Empty => received.clear(),
         Damage::Long => {
-            let count = 2048 - rng.of(&[0, 0, 1, 2, 50]);
+            let count = MOST_LETTERS - rng.of(&[0, 0, 1, 2, 50]);
             if rng.once_in(2) {
                 received = strand.iter().copied().cycle().take(count).collect();
             } else {
@@ -697,7 +746,7 @@ pub fn damaged(rng: &mut Rng, damage: Damage, lengths: &[u16], strand: &[u8]) ->
             }
         }
         Damage::Undecided => {
-            let most = rng.of(&[1, 2, 9, 2048]);
+            let most = rng.of(&[1, 2, 9, MOST_LETTERS]);
             undecided(rng, &mut received, most);
         }
         Damage::UnknownBefore => {
@@ -726,14 +775,14 @@ pub fn damaged(rng: &mut Rng, damage: Damage, lengths: &[u16], strand: &[u8]) ->
             }
         }
     }
-    received.truncate(2048);
+    received.truncate(MOST_LETTERS);
     unknown(rng, &mut received);
     received
 }
 
-/// A strand of 2,049 letters or more.
+/// A strand of 4,097 letters or more.
 pub fn overlong(rng: &mut Rng) -> Vec<u8> {
-    let count = 2049 + rng.of(&[0, 0, 1, 63, 2048]);
+    let count = MOST_LETTERS + rng.of(&[1, 1, 2, 64, MOST_LETTERS]);
     rng.letters(count)
 }
 
@@ -769,13 +818,12 @@ pub fn bad_length(rng: &mut Rng) -> u16 {
     rng.of(&[
         0,
         1,
-        65,
-        66,
-        127,
-        128,
-        130,
-        256,
+        257,
         258,
+        320,
+        511,
+        512,
+        514,
         1 << 15,
         (1 << 15) + 2,
         u16::MAX - 1,
@@ -801,10 +849,12 @@ pub fn bad_lengths(rng: &mut Rng, lengths: &mut Vec<u16>) {
 pub fn bad_b(rng: &mut Rng) -> u32 {
     rng.of(&[
         0,
-        129,
-        130,
-        256,
-        257,
+        513,
+        514,
+        640,
+        1023,
+        1024,
+        1025,
         1 << 16,
         1 << 30,
         (1 << 30) + 1,
@@ -820,27 +870,27 @@ pub fn bad_cut(rng: &mut Rng) -> (Vec<u16>, u32) {
         0 => lengths.clear(),
         1 => {
             let lengths_65 = rng.lengths(65, 2, 6);
-            (lengths, b) = fitted(rng, lengths_65);
+            (lengths, b) = fitted(rng, lengths_65, MOST_BYTES);
         }
         2 => {
             let count = rng.of(&[66, 127, 128, 129, 192, 320, 1100]);
-            lengths = rng.lengths(count, 2, 64);
+            lengths = rng.lengths(count, 2, MOST_LENGTH);
         }
-        3 => b = 1 + rng.below(128) as u32,
-        4 => b = rng.of(&[b + 1, b.max(2) - 1]).min(128),
+        3 => b = 1 + rng.below(MOST_BYTES as usize) as u32,
+        4 => b = rng.of(&[b + 1, b.max(2) - 1]).min(MOST_BYTES),
         5 => {
             let place = rng.below(lengths.len());
             let more = 1 + rng.below(3) as u16;
             lengths[place] = rng.of(&[lengths[place] + more, lengths[place].max(2 + more) - more]);
-            lengths[place] = lengths[place].min(64);
+            lengths[place] = lengths[place].min(MOST_LENGTH);
         }
         6 => {
             lengths.pop();
         }
         _ => {
             // As many equal lengths as go into 4B, or one more.
-            let k = 2 + rng.below(63) as u16;
-            b = 1 + rng.below(128) as u32;
+            let k = 2 + rng.below(MOST_LENGTH as usize - 1) as u16;
+            b = 1 + rng.below(MOST_BYTES as usize) as u32;
             lengths = vec![k; (4 * b / k as u32) as usize + rng.below(2)];
         }
     }
@@ -873,20 +923,34 @@ pub fn label_1(k: u16, b: u32) -> Vec<u8> {
     packed(&[(1, 4), (k as u32, 7), (b, 8), (0, 13)])
 }
 
-/// A label of edition 2 for any numbers, as far as its fields hold them.
-pub fn label_2(lengths: &[u16], b: u32) -> Vec<u8> {
+/// A label of edition 2 or 3 for any numbers, as far as its fields hold them.
+pub fn label_listed(edition: u32, lengths: &[u16], b: u32) -> Vec<u8> {
+    let (b_bits, k_bits) = if edition == 2 { (8, 7) } else { (10, 9) };
     let lengths = &lengths[..lengths.len().min(127)];
-    let mut fields = vec![(2, 4), (b, 8), (lengths.len() as u32, 7)];
-    fields.extend(lengths.iter().map(|&k| (k as u32, 7)));
+    let mut fields = vec![(edition, 4), (b, b_bits), (lengths.len() as u32, 7)];
+    fields.extend(lengths.iter().map(|&k| (k as u32, k_bits)));
     packed(&fields)
 }
 
-/// The bytes of the label that is written for lengths.
-pub fn label_length(lengths: &[u16]) -> usize {
-    if lengths.windows(2).all(|two| two[0] == two[1]) {
-        return 4;
+/// Whether the old editions can carry lengths and B.
+pub fn fits_old(lengths: &[u16], b: u32) -> bool {
+    b <= OLD_BYTES && lengths.iter().all(|&k| k <= OLD_LENGTH)
+}
+
+/// The label of a layout and B in its own edition.
+pub fn label(lengths: &[u16], b: u32) -> Vec<u8> {
+    if !fits_old(lengths, b) {
+        return label_listed(3, lengths, b);
     }
-    (19 + 7 * lengths.len()).div_ceil(8)
+    match lengths {
+        [k, others @ ..] if others.iter().all(|other| other == k) => label_1(*k, b),
+        _ => label_listed(2, lengths, b),
+    }
+}
+
+/// The bytes of the label that is written for a layout and B.
+pub fn label_length(lengths: &[u16], b: u32) -> usize {
+    label(lengths, b).len()
 }
 
 /// A count for a tally, often close to the limit.

@@ -134,7 +134,10 @@ impl Reading<'_> {
         let d = if i == 0 { p } else { p + 2 };
         let separator = (d + k..=d + k + 2).any(|place| equal(place, 3));
         let check = match self.letters.get(d..=d + k) {
-            Some(part) => part[..k].iter().map(symbol).sum::<u8>() % 4 == symbol(&part[k]),
+            Some(part) => {
+                let sum: usize = part[..k].iter().map(|x| symbol(x) as usize).sum();
+                sum % 4 == symbol(&part[k]) as usize
+            }
             None => false,
         };
         (i == 0 || equal(p, 2), separator, check)

@@ -13,7 +13,7 @@ mod program;
 mod verdicts;
 
 use oracle::{Refused, Verdict};
-use program::{hex, READER, REPORTER};
+use program::{hex, CONVERTER, READER, REPORTER};
 use std::process::exit;
 
 /// Stands in lent buffers before a call.
@@ -71,6 +71,10 @@ enum Question {
         lengths: Vec<u16>,
         room: usize,
     },
+    Convert {
+        label: Vec<u8>,
+        room: usize,
+    },
     Write {
         b: u32,
         lengths: Vec<u16>,
@@ -109,6 +113,10 @@ fn question_of(text: &str) -> Option<Question> {
         "wlabel" => Question::WriteLabel {
             b: fields.number()?,
             lengths: fields.lengths()?,
+            room: fields.number()?,
+        },
+        "convert" => Question::Convert {
+            label: fields.bytes()?,
             room: fields.number()?,
         },
         "write" => Question::Write {
@@ -186,6 +194,11 @@ fn by_oracle(question: &Question) -> Result<String, Refused> {
         Question::WriteLabel { b, lengths, room } => {
             let mut out = vec![BEFORE; *room];
             let count = oracle::write_label(lengths, *b, &mut out)?;
+            Ok(hex(&out[..count]))
+        }
+        Question::Convert { label, room } => {
+            let mut out = vec![BEFORE; *room];
+            let count = oracle::convert_label(label, &mut out)?;
             Ok(hex(&out[..count]))
         }
         Question::Write {
@@ -275,6 +288,11 @@ fn by_library(question: &Question) -> Result<String, String> {
         Question::WriteLabel { b, lengths, room } => {
             let mut out = vec![BEFORE; *room];
             let got = ffi::write_label(lengths, *b, &mut out);
+            Ok(hex(answered(&out, got.refusal, got.place, got.length)?))
+        }
+        Question::Convert { label, room } => {
+            let mut out = vec![BEFORE; *room];
+            let got = ffi::convert_label(label, &mut out);
             Ok(hex(answered(&out, got.refusal, got.place, got.length)?))
         }
         Question::Write {
@@ -367,6 +385,18 @@ fn call_holds(question: &str, input: &[u8], printed: &str) -> bool {
     same("library", question, printed, &lines)
 }
 
+/// Whether the program prints the answer for a label in a line of its own.
+/// It refuses by 8 where that is not exactly what the label needs, and it has no buffer that is too short.
+fn program_holds(question: &str, label: &[u8], answer: &str) -> bool {
+    let exact = oracle::label_needs(label) == Some(label.len());
+    let wanted = if exact { answer } else { "refused 8" };
+    if wanted == "refused 5" {
+        return true;
+    }
+    let printed = program::run(CONVERTER, (hex(label) + "\n").as_bytes());
+    same(CONVERTER, question, &format!("{wanted}\n"), &printed)
+}
+
 /// Whether all sides give the answer of a line.
 fn line_holds(line: &str) -> bool {
     let Some((question, answer)) = line.split_once('\t') else {
@@ -389,6 +419,11 @@ fn line_holds(line: &str) -> bool {
             same("oracle", question, &printed, &oracle)
                 & same(REPORTER, question, &printed, &library)
                 & call_holds(question, input, &printed)
+        }
+        Question::Convert { label, .. } => {
+            same("oracle", question, answer, &oracle)
+                & same("library", question, answer, &library)
+                & program_holds(question, label, answer)
         }
         _ => {
             same("oracle", question, answer, &oracle) & same("library", question, answer, &library)

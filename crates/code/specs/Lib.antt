@@ -12,6 +12,9 @@ pub mod Bounds
 pub mod Verdicts
 pub mod Writing
 pub mod Label
+pub mod OldLabel
+pub mod Conversion
+pub mod Editions
 pub mod Tallies
 pub mod Edits
 pub mod Reading

@@ -9,7 +9,7 @@ use mathlib.Core.Bool.{Bool, true, false, _||_}
 use Prim.Native.Nat.{ℕ}
 use lib.Dec.{ltb}
 use Rattle.code.specs.declared.Refusal.{Refusal}
-use Rattle.code.specs.declared.Refusal.the-variants.{SegmentLength, MessageSize, Cut, Overlong, ShortBuffer, ForeignLetter, TallyFull, Label, NoSuchSegment}
+use Rattle.code.specs.declared.Refusal.the-variants.{SegmentLength, MessageSize, Cut, Overlong, ShortBuffer, ForeignLetter, TallyFull, Label, NoSuchSegment, TooLarge}
 use Rattle.code.specs.declared.Checked.{Checked}
 use Rattle.code.specs.declared.Checked.the-variants.{Fine, Refused}
 
@@ -24,6 +24,7 @@ numberOf (ForeignLetter i) = 6
 numberOf TallyFull = 7
 numberOf Label = 8
 numberOf NoSuchSegment = 9
+numberOf TooLarge = 13
 
 -- the place that a refusal names: the first foreign letter's, from 0
 abbrev pub placeOf : Refusal → ℕ
@@ -36,6 +37,7 @@ placeOf (ForeignLetter i) = i
 placeOf TallyFull = 0
 placeOf Label = 0
 placeOf NoSuchSegment = 0
+placeOf TooLarge = 0
 
 -- the number of a test's outcome: 0 where nothing is against it
 abbrev pub testNumber : Checked → ℕ

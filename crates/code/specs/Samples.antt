@@ -11,7 +11,7 @@ use Rattle.code.specs.Layers.{bits, number, width, syndrome, pair, ones,
 use Rattle.code.specs.Repair.{flips, lefts, puts, linked, firstWith, repair}
 use Rattle.code.specs.Segment.{total, check, sep, syndromeOf, separator, marker, block, segment, lastOf, size}
 use Rattle.code.specs.Layout.{cut, joined, written, extent}
-use Rattle.code.specs.Order.{order}
+use Rattle.code.specs.Order.{order, badLength}
 use Rattle.code.specs.Writing.{strandOf}
 use Rattle.code.specs.Label.{inBits, fromBits, allAre, labelBytes}
 use Rattle.code.specs.Edits.{same, firstEdit, judged}
@@ -74,5 +74,5 @@ pub rows-hold : (r : Row) → List·Memᴰ r rows → T (holds r)
 unfolding every holds inBits fromBits allAre bytes symbols legible bits number width syndrome pair ones sumOfPlaces sumFrom firstPower flips lefts
     puts linked firstWith repair total check sep syndromeOf separator marker block segment lastOf size cut joined written extent strandOf same
     firstEdit judged isPrefix twoEqual threeEqual separatorAt checkAgrees syndromeAgrees repaired messageAt messageWithout readMessage clean endOf
-    readSegment above pairs tries firstStanding scan reading asSymbols hasUnknown
+    readSegment above pairs tries firstStanding scan reading asSymbols hasUnknown badLength
 rows-hold = of-every rows tt

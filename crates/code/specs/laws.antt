@@ -14,6 +14,7 @@ pub mod Writing
 pub mod Bits
 pub mod LabelFields
 pub mod Label
+pub mod Editions
 pub mod Tallies
 pub mod Edits
 pub mod Judged

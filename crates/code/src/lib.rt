@@ -26,7 +26,7 @@ pub enum Repair {
     Nothing,
 }
 
-// Why a call is turned down, in the order of the numbers 1 to 9.
+// Why a call is turned down, in the order of the numbers 1 to 9 and 13.
 pub enum Refusal {
     SegmentLength,
     MessageSize,
@@ -37,6 +37,7 @@ pub enum Refusal {
     TallyFull,
     Label,
     NoSuchSegment,
+    TooLarge,
 }
 
 // The outcome of a test: nothing against it, or why it is turned down.

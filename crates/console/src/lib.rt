@@ -13,7 +13,7 @@ ghost use Prim.Native.Nat.{_+_, _≤_};
 ghost use lib.ListN.{length};
 ghost use Rattle.text.specs.Put.{Appended};
 ghost use Rattle.console.specs.Input.{Within};
-ghost use Rattle.console.specs.LabelLine.{orderLine};
+ghost use Rattle.console.specs.LabelLine.{mostLabel, Held, orderLine};
 ghost use Rattle.console.specs.RefusedLine.{refusedLine, refusedRoom};
 
 // What reading standard input answers: the number of bytes that came, or that a read failed.
@@ -78,20 +78,32 @@ pub fn put_refused(out: &mut [u8], at: usize, r: Refusal) -> usize
     put(out, end, b"\n")
 }
 
-// The most bytes that a label needs: one that lists 127 lengths.
-const MOST_LABEL: usize = 114;
+// The most bytes that a label needs: one of edition 3 that lists 127 lengths.
+pub const MOST_LABEL: usize = 146;
 
-// The order of the line that holds the label: exactly the bytes that the label needs, two digits each, or refused 8.
+// The bytes of the label that a line holds, at the front of `label`, and their number: exactly those that the label needs, two digits each. Bad is a
+// line that holds none.
+pub fn label_of(line: &[u8], label: &mut [u8]) -> Hex
+    requires { ⌜ mostLabel ≤ length (now label) ⌝ }
+    ensures { λ r. ⌜ Held (now (line .entry)) r (now (label .exit)) ⌝ }
+{
+    let decoded = text::hex::decode(line, label);
+    let Hex::Bytes(n) = decoded else {
+        return Hex::Bad;
+    };
+    if !label::is_whole(front(label, n)) {
+        return Hex::Bad;
+    }
+    Hex::Bytes(n)
+}
+
+// The order of the line that holds the label, or refused 8.
 pub fn order_of(line: &[u8]) -> Labelled
     ensures { λ r. ⌜ r ≡ orderLine (now (line .entry)) ⌝ }
 {
-    let mut label = [0u8; MOST_LABEL];
-    let Hex::Bytes(n) = text::hex::decode(line, &mut label) else {
+    let mut bytes = [0u8; MOST_LABEL];
+    let Hex::Bytes(n) = label_of(line, &mut bytes) else {
         return label::refused(Refusal::Label);
     };
-    let bytes = front(&label, n);
-    if !label::is_whole(bytes) {
-        return label::refused(Refusal::Label);
-    }
-    label::read(bytes)
+    label::read(front(&bytes, n))
 }

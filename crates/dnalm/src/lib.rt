@@ -11,6 +11,7 @@ ghost use Rattle.code.specs.ReadCall.{readCall, locateCall};
 ghost use Rattle.code.specs.Order.{order};
 ghost use Rattle.report.specs.ReportCall.{reportCall, verdictCall};
 ghost use Rattle.code.specs.Label.{labelCall, labelRead};
+ghost use Rattle.code.specs.Conversion.{convertCall};
 ghost use Rattle.code.specs.Tallies.{tallied};
 ghost use Rattle.dnalm.specs.CallAnswers.{answered, fromLetter, fromWrote, fromCounted, fromLocated};
 ghost use Rattle.dnalm.specs.CallAnswers.{inNumbers, fromVerdict, fromReported, fromLabelled, asTally, fromTallied};
@@ -205,6 +206,14 @@ pub extern "C" fn dnalm_write_label(lengths: &[u16], b: u32, out: &mut [u8]) -> 
           ⌜ (r, now (out .exit)) ≡ answered fromWrote (labelCall o (now (out .entry))) ⌝ }
 {
     told(label::write(lengths, b, out))
+}
+
+// Writes the label on the other side to the front of `out`, as `label::convert` does.
+#[no_mangle]
+pub extern "C" fn dnalm_convert_label(bytes: &[u8], out: &mut [u8]) -> Written
+    ensures { λ r. ⌜ (r, now (out .exit)) ≡ answered fromWrote (convertCall (now (bytes .entry)) (now (out .entry))) ⌝ }
+{
+    told(label::convert(bytes, out))
 }
 
 // The number of a test's outcome, 0 where nothing is against it.

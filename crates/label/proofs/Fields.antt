@@ -65,19 +65,19 @@ one-shift w h = shl-exact {a = 1} 1 w 32 (omega arith) (omega arith) ∙ omega a
 
 -- Lengths, one after the other
 
-module _ (bs a : List ℕ) (n i : ℕ) where
+module _ (bs a : List ℕ) (at w n i : ℕ) where
   -- one more length is read
-  pub list-next : (v : ℕ) → i < n → i < length a → v ≡ field (19 + 7 * i) 7 bs → take i a ≡ take i (fromBits 7 n (drop 19 (inBits 8 bs))) → take (i + 1) (set a i v) ≡ take (i + 1) (fromBits 7 n (drop 19 (inBits 8 bs)))
+  pub list-next : (v : ℕ) → i < n → i < length a → v ≡ field (at + w * i) w bs → take i a ≡ take i (fromBits w n (drop at (inBits 8 bs))) → take (i + 1) (set a i v) ≡ take (i + 1) (fromBits w n (drop at (inBits 8 bs)))
   list-next v h room is e =
-      let ks = fromBits 7 n (drop 19 (inBits 8 bs)) in
-      let next : getD ks i 0 ≡ v = getD-fromBits 7 n i (drop 19 (inBits 8 bs)) h ∙ ap (λ (u : Word). number (take 7 u)) (drop-drop (7 * i) 19 (inBits 8 bs)) ∙ sym is in
+      let ks = fromBits w n (drop at (inBits 8 bs)) in
+      let next : getD ks i 0 ≡ v = getD-fromBits w n i (drop at (inBits 8 bs)) h ∙ ap (λ (u : Word). number (take w u)) (drop-drop (w * i) at (inBits 8 bs)) ∙ sym is in
       ap (λ (m : ℕ). take m (set a i v)) (add-one i)
       ∙ take-suc-set a i v room
       ∙ (λ j. e j ++ sym next j ∷ [])
-      ∙ sym (take-suc ks i 0 (rw (length-fromBits 7 n (drop 19 (inBits 8 bs))) h))
+      ∙ sym (take-suc ks i 0 (rw (length-fromBits w n (drop at (inBits 8 bs))) h))
       ∙ ap (λ (m : ℕ). take m ks) (sym (add-one i))
 
   -- all lengths are read
-  pub list-all : i ≡ n → take i a ≡ take i (fromBits 7 n (drop 19 (inBits 8 bs))) → take n a ≡ fromBits 7 n (drop 19 (inBits 8 bs))
+  pub list-all : i ≡ n → take i a ≡ take i (fromBits w n (drop at (inBits 8 bs))) → take n a ≡ fromBits w n (drop at (inBits 8 bs))
   list-all all e =
-      ap (λ (m : ℕ). take m a) (sym all) ∙ e ∙ take-all i (fromBits 7 n (drop 19 (inBits 8 bs))) (rw (length-fromBits 7 n (drop 19 (inBits 8 bs))) (omega arith))
+      ap (λ (m : ℕ). take m a) (sym all) ∙ e ∙ take-all i (fromBits w n (drop at (inBits 8 bs))) (rw (length-fromBits w n (drop at (inBits 8 bs))) (omega arith))

@@ -9,6 +9,7 @@ use Prim.Native.Nat.{ℕ, _+_, _*_}
 use lib.ListN.{take, replicate}
 use Rattle.code.specs.declared.Counted.{Counted}
 use Rattle.code.specs.declared.Counted.the-variants as N
+use Rattle.code.specs.Limits.{mostBytes}
 use Rattle.code.specs.Order.{Order}
 use Rattle.code.specs.ReadCall.{readCall}
 use Rattle.text.specs.Lines.{feed}
@@ -28,7 +29,7 @@ shown b (N.Refused r, buffers) = refusedLine r
 
 -- the same for an order and letters, with buffers of zeros
 unfoldable pub readText : Order → List ℕ → List ℕ
-readText o letters = shown (o .b) (readCall o letters (replicate 128 0) (replicate 16 0))
+readText o letters = shown (o .b) (readCall o letters (replicate mostBytes 0) (replicate 16 0))
 
 -- what is printed for an input: its first line holds the label, its second the letters
 unfoldable pub readOutput : List ℕ → List ℕ
@@ -38,6 +39,6 @@ readOutput input = printed readText input
 abbrev pub countsRoom : ℕ
 countsRoom = 54
 
--- room for all that is printed: two digits for each of 128 bytes, a line feed and the counts
+-- room for all that is printed: two digits for each of 512 bytes, a line feed and the counts
 abbrev pub outputRoom : ℕ
-outputRoom = 2 * 128 + 1 + countsRoom
+outputRoom = 2 * mostBytes + 1 + countsRoom

@@ -34,7 +34,7 @@ fn put_reading(out: &mut [u8], lengths: &[u16], b: u32, letters: &[u8]) -> usize
       let o = order (now (lengths .entry)) b in
           ⌜ Appended (now (out .entry)) 0 (readText o (now (letters .entry))) (now (out .exit)) r ⌝ }
 {
-    let mut message = [0u8; 128];
+    let mut message = [0u8; 512];
     let mut sheet = [0u8; 16];
     match reader::read(lengths, b, letters, &mut message, &mut sheet) {
         Counted::Counts(clean, corrected, lost) => {
@@ -68,12 +68,12 @@ fn main() {
     ) {
         return;
     }
-    let mut input = [0u8; 4096];
+    let mut input = [0u8; 8192];
     let got = console::read_input(&mut input, b"read_strand: reading the input");
     let Input::Bytes(n) = got else {
         return;
     };
-    let mut out = [0u8; 311];
+    let mut out = [0u8; 1079];
     let end = output(front(&input, n), &mut out);
     console::write_output(front(&out, end), b"read_strand: writing the output");
 }

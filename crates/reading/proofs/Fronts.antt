@@ -1,5 +1,5 @@
 -- What a reading is lent, and what it leaves at the fronts of arrays and buffers.
---   lent-symbols, lent-entries                     how much the parts of arrays hold that a reading is lent
+--   lent-entries                                   how much the parts of arrays hold that a reading is lent
 --   front-symbols, front-received                  the symbols that letters are read as, in an array
 --   known-received                                 letters without an N
 --   Front                                          what stands at the front of an array
@@ -68,9 +68,6 @@ length-ends p (o ∷ os) = ap suc (length-ends (p + length (o .piece)) os)
 
 -- The reading of an order that is taken
 module _ (o : Order) (t : Taken o) where
-  pub lent-symbols : length {A = ℕ} (take (4 * o .b) (replicate 512 0)) ≡ 4 * o .b
-  lent-symbols = length-take-le (4 * o .b) (replicate 512 0) (omega (arith, order-fine o false t .most-bytes))
-
   pub lent-entries : length {A = ℕ} (take (length (o .lengths)) (replicate 64 0)) ≡ length (o .lengths)
   lent-entries = length-take-le (length (o .lengths)) (replicate 64 0) (order-fine o false t .most-segments)
 

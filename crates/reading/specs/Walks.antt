@@ -1,13 +1,15 @@
 -- The walk over a layout.
 --   endsFrom   where the pieces of outcomes end
+--   Room       the arrays that a reading is lent
 --   Lent       the buffers that a walk is lent
 --   Walked     what it leaves in them
 --   Found      what is said of the segments, and where they end
 --   startIn    where a piece starts, by the ends
 use mathlib.Core.Path.{_≡_}
 use mathlib.Core.List.{List, [], _∷_, map}
-use Prim.Native.Nat.{ℕ, zero, suc, _+_}
+use Prim.Native.Nat.{ℕ, zero, suc, _+_, _*_, _≤_}
 use lib.ListN.{length, getD}
+use Rattle.code.specs.Limits.{mostBytes, mostLetters}
 use Rattle.code.specs.Layout.{sum}
 use Rattle.code.specs.Strands.{Outcome, outcomes, messagesOf, verdictsOf}
 use Rattle.code.specs.Verdicts.{verdictNumber}
@@ -16,6 +18,10 @@ use Rattle.code.specs.Verdicts.{verdictNumber}
 unfoldable pub endsFrom : ℕ → List Outcome → List ℕ
 endsFrom p [] = []
 endsFrom p (o ∷ os) = (p + length (o .piece)) ∷ endsFrom (p + length (o .piece)) os
+
+-- lent room for letters as numbers and for the symbols of messages, enough for an order and letters within the limits
+abbrev pub Room : ℕ → List ℕ → List ℕ → List ℕ → Type 0
+Room b letters legible symbols = (length letters ≤ mostLetters → length letters ≤ length legible) × (b ≤ mostBytes → 4 * b ≤ length symbols)
 
 -- room for the symbols of a layout, and for a verdict and an end of each segment
 abbrev pub Lent : List ℕ → List ℕ → List ℕ → List ℕ → Type 0

@@ -3,11 +3,12 @@ use scan::Next;
 use scan::next_place;
 use sheet::number_of;
 use steps::read_segment;
+use symbols::SHORT_LETTERS;
 use symbols::as_symbols;
 use symbols::has_unknown;
 ghost use mathlib.Core.Path.{_≡_};
 ghost use mathlib.Core.Bool.{true, false};
-ghost use Prim.Native.Nat.{_≤_};
+ghost use Prim.Native.Nat.{_*_, _≤_};
 ghost use lib.ListN.{length};
 ghost use Rattle.code.specs.Symbols.{asSymbols, hasUnknown};
 ghost use Rattle.code.specs.Limits.{mostLetters};
@@ -72,7 +73,25 @@ fn read_segments(
     }
 }
 
-// Reads the segments of a layout from letters with an N among them: the symbols that they are read as stand in an array beside them.
+// Reads the segments of a layout from letters with an N among them: the symbols that they are read as stand at the front of `s`, which is lent.
+fn read_beside(
+    lengths: &[u16],
+    s: &mut [u8],
+    letters: &[u8],
+    symbols: &mut [u8],
+    verdicts: &mut [u32],
+    ends: &mut [u16],
+)
+    requires { ⌜ (length (now letters) ≤ mostLetters) × Lengths longest (now lengths) × (true ≡ hasUnknown (now letters)) ⌝ }
+    requires { ⌜ (length (now letters) ≤ length (now s)) × Lent (now lengths) (now symbols) (now verdicts) (now ends) ⌝ }
+    ensures { λ _. ⌜ Walked (now (lengths .entry)) (now (letters .entry)) (now (symbols .exit)) (now (verdicts .exit)) (now (ends .exit)) ⌝ }
+{
+    as_symbols(letters, s);
+    let n = letters.len();
+    read_segments(lengths, &s[..n], letters, true, symbols, verdicts, ends)
+}
+
+// The same, with an array for the symbols.
 fn read_unknown(
     lengths: &[u16],
     letters: &[u8],
@@ -84,10 +103,13 @@ fn read_unknown(
     requires { ⌜ Lent (now lengths) (now symbols) (now verdicts) (now ends) ⌝ }
     ensures { λ _. ⌜ Walked (now (lengths .entry)) (now (letters .entry)) (now (symbols .exit)) (now (verdicts .exit)) (now (ends .exit)) ⌝ }
 {
-    let mut s = [0u8; 2048];
-    as_symbols(letters, &mut s);
-    let n = letters.len();
-    read_segments(lengths, &s[..n], letters, true, symbols, verdicts, ends)
+    if letters.len() <= SHORT_LETTERS {
+        let mut s = [0u8; SHORT_LETTERS];
+        read_beside(lengths, &mut s, letters, symbols, verdicts, ends);
+        return;
+    }
+    let mut s = [0u8; 4096];
+    read_beside(lengths, &mut s, letters, symbols, verdicts, ends)
 }
 
 // Reads the segments of a layout: their messages, the numbers of their verdicts and where each ends. `unknown` says whether an N is among the letters;
@@ -111,20 +133,20 @@ pub fn read_layout(
     read_segments(lengths, letters, letters, false, symbols, verdicts, ends)
 }
 
-// Reads the segments of an order for the numbers of their verdicts and where each ends; their messages are left.
+// Reads the segments of an order for the numbers of their verdicts and where each ends; their messages are left in `symbols`.
 pub fn read_order(
     lengths: &[u16],
     b: u32,
     letters: &[u8],
     unknown: bool,
+    symbols: &mut [u8],
     verdicts: &mut [u32],
     ends: &mut [u16],
 )
-    requires { ⌜ (length (now letters) ≤ mostLetters) × (unknown ≡ hasUnknown (now letters)) ⌝ }
+    requires { ⌜ (length (now letters) ≤ mostLetters) × (unknown ≡ hasUnknown (now letters)) × (4 * b ≤ length (now symbols)) ⌝ }
     requires { ⌜ Taken (order (now lengths) b) × (length (now verdicts) ≡ length (now lengths)) × (length (now ends) ≡ length (now lengths)) ⌝ }
     ensures { λ _. ⌜ Found (now (lengths .entry)) (now (letters .entry)) (now (verdicts .exit)) (now (ends .exit)) ⌝ }
 {
-    let mut symbols = [0u8; 512];
     let n = 4 * b as usize;
     read_layout(lengths, letters, unknown, &mut symbols[..n], verdicts, ends)
 }

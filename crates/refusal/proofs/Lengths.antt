@@ -8,7 +8,7 @@ use Prim.Native.Nat.{ℕ, suc, _+_, _<_, _≤_}
 use native.Mathlib.Numerals.{add-one}
 use lib.ListN.{length, getD, drop, drop-of-length-le}
 use lib.Seq.{drop-cons}
-use Rattle.code.specs.Limits.{leastLength, mostLength}
+use Rattle.code.specs.Limits.{leastLength}
 use Rattle.code.specs.Refusals.{outside}
 use Rattle.code.specs.Layout.{sum}
 use Rattle.code.specs.Order.{badLength}
@@ -22,13 +22,13 @@ or-no true = refl
 or-no false = refl
 
 module _ (ks : List ℕ) (i : ℕ) where
-  pub bad-turn : (bad : Bool) → i < length ks → ((bad || outside leastLength mostLength (getD ks i 0)) || badLength (drop (i + 1) ks)) ≡ (bad || badLength (drop i ks))
+  pub bad-turn : (most : ℕ) (bad : Bool) → i < length ks → ((bad || outside leastLength most (getD ks i 0)) || badLength most (drop (i + 1) ks)) ≡ (bad || badLength most (drop i ks))
   unfolding badLength
-  bad-turn bad h = rw (add-one, drop-cons ks i 0 h) (or-assoc bad (outside leastLength mostLength (getD ks i 0)) (badLength (drop (suc i) ks)))
+  bad-turn most bad h = rw (add-one, drop-cons ks i 0 h) (or-assoc bad (outside leastLength most (getD ks i 0)) (badLength most (drop (suc i) ks)))
 
-  pub bad-end : (bad : Bool) → length ks ≤ i → (bad || badLength (drop i ks)) ≡ bad
+  pub bad-end : (most : ℕ) (bad : Bool) → length ks ≤ i → (bad || badLength most (drop i ks)) ≡ bad
   unfolding badLength
-  bad-end bad h = rw (drop-of-length-le ks h) (or-no bad)
+  bad-end most bad h = rw (drop-of-length-le ks h) (or-no bad)
 
   pub sum-turn : i < length ks → sum (drop i ks) ≡ getD ks i 0 + sum (drop (i + 1) ks)
   unfolding sum

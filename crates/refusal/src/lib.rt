@@ -8,7 +8,7 @@ ghost use lib.ListN.{length};
 ghost use Rattle.code.specs.Refusals as R;
 ghost use Rattle.code.specs.Layout.{sum, Lengths};
 ghost use Rattle.code.specs.Limits.{leastLength, mostLength, mostBytes, mostSegments};
-ghost use Rattle.code.specs.Order.{order, badLength, badCut, orderTest};
+ghost use Rattle.code.specs.Order.{order, badLength, badCut, testWithin, orderTest};
 ghost use Rattle.code.specs.ReadCall.{receivedTest, shortBuffers};
 ghost use Rattle.code.specs.declared.Checked.the-variants.{Fine};
 use code::Checked;
@@ -26,11 +26,11 @@ pub fn outside(low: usize, high: usize, x: usize) -> bool
     x < low || high < x
 }
 
-// A length is outside its limits.
-fn is_outside(k: u16) -> bool
-    ensures { λ r. ⌜ r ≡ R.outside leastLength mostLength k ⌝ }
+// A length is below the least or above `most`.
+fn is_outside(k: u16, most: u16) -> bool
+    ensures { λ r. ⌜ r ≡ R.outside leastLength most k ⌝ }
 {
-    k < LEAST_LENGTH || MOST_LENGTH < k
+    k < LEAST_LENGTH || most < k
 }
 
 // One of two holds.
@@ -43,14 +43,14 @@ fn either(a: bool, b: bool) -> bool
     b
 }
 
-// Some length is outside its limits; every length is looked at, so that many are at once.
-fn bad_length(lengths: &[u16]) -> bool
-    ensures { λ r. ⌜ r ≡ badLength (now (lengths .entry)) ⌝ }
+// Some length is below the least or above `most`; every length is looked at, so that many are at once.
+pub fn bad_length(lengths: &[u16], most: u16) -> bool
+    ensures { λ r. ⌜ r ≡ badLength most (now (lengths .entry)) ⌝ }
 {
     let mut bad = false;
     let mut i = 0;
     while i < lengths.len() {
-        bad = either(bad, is_outside(lengths[i]));
+        bad = either(bad, is_outside(lengths[i], most));
         i += 1;
     }
     bad
@@ -78,20 +78,28 @@ fn bad_cut(lengths: &[u16], b: u32) -> bool
     outside(1, MOST_SEGMENTS, lengths.len()) || sum_of(lengths) as u32 != 4 * b
 }
 
-// The tests 1, 2 and 3 of an order, where `other` says that the message's length is not B.
-pub fn order_test(lengths: &[u16], b: u32, other: bool) -> Checked
-    ensures { λ r. do let o = order (now (lengths .entry)) b in ⌜ r ≡ orderTest o other Fine ⌝ }
+// The tests 1, 2 and 3 of an order, where a length is at most `long` and B at most `many`, and `other` says that the message's length is not B.
+pub fn test_within(long: u16, many: usize, lengths: &[u16], b: u32, other: bool) -> Checked
+    requires { ⌜ (long ≤ mostLength) × (many ≤ mostBytes) ⌝ }
+    ensures { λ r. do let o = order (now (lengths .entry)) b in ⌜ r ≡ testWithin long many o other Fine ⌝ }
 {
-    if bad_length(lengths) {
+    if bad_length(lengths, long) {
         return Checked::Refused(Refusal::SegmentLength);
     }
-    if outside(1, MOST_BYTES, b as usize) || other {
+    if outside(1, many, b as usize) || other {
         return Checked::Refused(Refusal::MessageSize);
     }
     if bad_cut(lengths, b) {
         return Checked::Refused(Refusal::Cut);
     }
     Checked::Fine
+}
+
+// The tests 1, 2 and 3 of the calls.
+pub fn order_test(lengths: &[u16], b: u32, other: bool) -> Checked
+    ensures { λ r. do let o = order (now (lengths .entry)) b in ⌜ r ≡ orderTest o other Fine ⌝ }
+{
+    test_within(MOST_LENGTH, MOST_BYTES, lengths, b, other)
 }
 
 // The tests 1 to 4 of n letters received for an order.
@@ -116,7 +124,7 @@ pub fn short_buffers(lengths: &[u16], b: u32, n: usize, m: usize) -> bool
     n < b as usize || m < sheet::sheet_bytes(lengths.len())
 }
 
-// The number of a refusal, 1 to 9.
+// The number of a refusal, 1 to 9 or 13.
 pub fn number_of(r: Refusal) -> u8
     ensures { λ n. ⌜ n ≡ R.numberOf r ⌝ }
 {
@@ -130,6 +138,7 @@ pub fn number_of(r: Refusal) -> u8
         Refusal::TallyFull => 7,
         Refusal::Label => 8,
         Refusal::NoSuchSegment => 9,
+        Refusal::TooLarge => 13,
     }
 }
 
@@ -147,5 +156,6 @@ pub fn place_of(r: Refusal) -> usize
         Refusal::TallyFull => 0,
         Refusal::Label => 0,
         Refusal::NoSuchSegment => 0,
+        Refusal::TooLarge => 0,
     }
 }

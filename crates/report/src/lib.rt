@@ -11,8 +11,10 @@ use reading::read_order;
 use reading::start_of;
 use refusal::received_test;
 use sheet::verdict_of;
+use symbols::SHORT_BYTES;
+use symbols::SHORT_LETTERS;
 ghost use mathlib.Core.Path.{_≡_};
-ghost use Prim.Native.Nat.{_<_, _≤_};
+ghost use Prim.Native.Nat.{_*_, _<_, _≤_};
 ghost use lib.ListN.{length};
 ghost use Rattle.code.specs.declared.Refusal.the-variants.{ShortBuffer};
 ghost use Rattle.code.specs.declared.Checked.the-variants.{Fine};
@@ -22,6 +24,7 @@ ghost use Rattle.code.specs.Refusals.{refuse};
 ghost use Rattle.code.specs.Order.{order, Taken};
 ghost use Rattle.code.specs.Strands.{outcomes};
 ghost use Rattle.code.specs.Verdicts.{verdictOf};
+ghost use Rattle.reading.specs.Walks.{Room};
 ghost use Rattle.text.specs.Put.{Appended};
 ghost use Rattle.lines.specs.Report.{inLetters, linesFrom, linesOf};
 ghost use Rattle.report.specs.ReportCall.{shortFor, reportAs, reportCall, reportedAt, verdictCall};
@@ -68,9 +71,16 @@ fn put_lines(out: &mut [u8], verdicts: &[u32], ends: &[u16], letters: &[u8]) -> 
 
 // The lines of the segments of an order, from letters as numbers, at the front of `out`; or that `out` is too short. They are formed apart, since
 // only then their number of bytes is known.
-fn write_lines(lengths: &[u16], b: u32, letters: &[u8], unknown: bool, out: &mut [u8]) -> Wrote
+fn write_lines(
+    lengths: &[u16],
+    b: u32,
+    letters: &[u8],
+    unknown: bool,
+    symbols: &mut [u8],
+    out: &mut [u8],
+) -> Wrote
     requires { ⌜ (length (now letters) ≤ mostLetters) × (unknown ≡ hasUnknown (now letters)) × Below letterKinds (now letters) ⌝ }
-    requires { ⌜ Taken (order (now lengths) b) ⌝ }
+    requires { ⌜ Taken (order (now lengths) b) × (4 * b ≤ length (now symbols)) ⌝ }
     ensures { λ r. do
       let lines = linesOf (outcomes (now (lengths .entry)) (now (letters .entry))) in
           ⌜ (r, now (out .exit)) ≡ reportAs (refuse (shortFor lines (length (now (out .entry)))) ShortBuffer Fine) lines (now (out .entry)) ⌝ }
@@ -83,6 +93,7 @@ fn write_lines(lengths: &[u16], b: u32, letters: &[u8], unknown: bool, out: &mut
         b,
         letters,
         unknown,
+        symbols,
         &mut verdicts[..l],
         &mut ends[..l],
     );
@@ -96,9 +107,16 @@ fn write_lines(lengths: &[u16], b: u32, letters: &[u8], unknown: bool, out: &mut
 }
 
 // What is reported of the segment behind the first i, from letters as numbers.
-fn verdict_at(lengths: &[u16], b: u32, letters: &[u8], unknown: bool, i: usize) -> Verdict
+fn verdict_at(
+    lengths: &[u16],
+    b: u32,
+    letters: &[u8],
+    unknown: bool,
+    symbols: &mut [u8],
+    i: usize,
+) -> Verdict
     requires { ⌜ (length (now letters) ≤ mostLetters) × (unknown ≡ hasUnknown (now letters)) × Below letterKinds (now letters) ⌝ }
-    requires { ⌜ Taken (order (now lengths) b) × (i < length (now lengths)) ⌝ }
+    requires { ⌜ Taken (order (now lengths) b) × (i < length (now lengths)) × (4 * b ≤ length (now symbols)) ⌝ }
     ensures { λ r. ⌜ r ≡ reportedAt (outcomes (now (lengths .entry)) (now (letters .entry))) i ⌝ }
 {
     let mut verdicts = [0u32; 64];
@@ -109,12 +127,41 @@ fn verdict_at(lengths: &[u16], b: u32, letters: &[u8], unknown: bool, i: usize) 
         b,
         letters,
         unknown,
+        symbols,
         &mut verdicts[..l],
         &mut ends[..l],
     );
     let from = start_of(&ends, i);
     let to = ends[i] as usize;
     in_letters(verdicts[i], &letters[from..to])
+}
+
+// Reports a reading as `write` does, with lent arrays for the letters as numbers and for the symbols of the messages.
+fn write_lent(
+    lengths: &[u16],
+    b: u32,
+    letters: &[u8],
+    legible: &mut [u8],
+    symbols: &mut [u8],
+    out: &mut [u8],
+) -> Wrote
+    requires { ⌜ Room b (now letters) (now legible) (now symbols) ⌝ }
+    ensures { λ r. do
+      let o = order (now (lengths .entry)) b in
+          ⌜ (r, now (out .exit)) ≡ reportCall o (now (letters .entry)) (now (out .entry)) ⌝ }
+{
+    let received = received_test(lengths, b, letters.len());
+    if let Checked::Refused(r) = received {
+        return Wrote::Refused(r);
+    }
+    let decoded = symbols::decode(letters, legible);
+    match decoded {
+        Decoded::Whole(unknown) => {
+            let n = letters.len();
+            write_lines(lengths, b, &legible[..n], unknown, symbols, out)
+        }
+        Decoded::Foreign(i) => Wrote::Refused(Refusal::ForeignLetter(i)),
+    }
 }
 
 // Reports a reading: a line for each segment of the received `letters` goes to the front of `out`. It has the segment's number, from 1, a space and what
@@ -128,18 +175,43 @@ pub fn write(lengths: &[u16], b: u32, letters: &[u8], out: &mut [u8]) -> Wrote
       let o = order (now (lengths .entry)) b in
           ⌜ (r, now (out .exit)) ≡ reportCall o (now (letters .entry)) (now (out .entry)) ⌝ }
 {
+    if letters.len() <= SHORT_LETTERS && b <= SHORT_BYTES {
+        let mut legible = [0u8; 1280];
+        let mut symbols = [0u8; 512];
+        return write_lent(lengths, b, letters, &mut legible, &mut symbols, out);
+    }
+    let mut legible = [0u8; 4096];
+    let mut symbols = [0u8; 2048];
+    write_lent(lengths, b, letters, &mut legible, &mut symbols, out)
+}
+
+// Answers as `verdict` does, with lent arrays for the letters as numbers and for the symbols of the messages.
+fn verdict_lent(
+    lengths: &[u16],
+    b: u32,
+    letters: &[u8],
+    legible: &mut [u8],
+    symbols: &mut [u8],
+    segment: u32,
+) -> Reported
+    requires { ⌜ Room b (now letters) (now legible) (now symbols) ⌝ }
+    ensures { λ r. do let o = order (now (lengths .entry)) b in ⌜ r ≡ verdictCall o (now (letters .entry)) segment ⌝ }
+{
     let received = received_test(lengths, b, letters.len());
     if let Checked::Refused(r) = received {
-        return Wrote::Refused(r);
+        return Reported::Refused(r);
     }
-    let mut legible = [0u8; 2048];
-    let decoded = symbols::decode(letters, &mut legible);
+    let decoded = symbols::decode(letters, legible);
     match decoded {
         Decoded::Whole(unknown) => {
+            let number = segment as usize;
+            if refusal::outside(1, lengths.len(), number) {
+                return Reported::Refused(Refusal::NoSuchSegment);
+            }
             let n = letters.len();
-            write_lines(lengths, b, &legible[..n], unknown, out)
+            Reported::Said(verdict_at(lengths, b, &legible[..n], unknown, symbols, number - 1))
         }
-        Decoded::Foreign(i) => Wrote::Refused(Refusal::ForeignLetter(i)),
+        Decoded::Foreign(i) => Reported::Refused(Refusal::ForeignLetter(i)),
     }
 }
 
@@ -148,21 +220,12 @@ pub fn write(lengths: &[u16], b: u32, letters: &[u8], out: &mut [u8]) -> Wrote
 pub fn verdict(lengths: &[u16], b: u32, letters: &[u8], segment: u32) -> Reported
     ensures { λ r. do let o = order (now (lengths .entry)) b in ⌜ r ≡ verdictCall o (now (letters .entry)) segment ⌝ }
 {
-    let received = received_test(lengths, b, letters.len());
-    if let Checked::Refused(r) = received {
-        return Reported::Refused(r);
+    if letters.len() <= SHORT_LETTERS && b <= SHORT_BYTES {
+        let mut legible = [0u8; 1280];
+        let mut symbols = [0u8; 512];
+        return verdict_lent(lengths, b, letters, &mut legible, &mut symbols, segment);
     }
-    let mut legible = [0u8; 2048];
-    let decoded = symbols::decode(letters, &mut legible);
-    match decoded {
-        Decoded::Whole(unknown) => {
-            let number = segment as usize;
-            if refusal::outside(1, lengths.len(), number) {
-                return Reported::Refused(Refusal::NoSuchSegment);
-            }
-            let n = letters.len();
-            Reported::Said(verdict_at(lengths, b, &legible[..n], unknown, number - 1))
-        }
-        Decoded::Foreign(i) => Reported::Refused(Refusal::ForeignLetter(i)),
-    }
+    let mut legible = [0u8; 4096];
+    let mut symbols = [0u8; 2048];
+    verdict_lent(lengths, b, letters, &mut legible, &mut symbols, segment)
 }

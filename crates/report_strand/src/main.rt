@@ -50,7 +50,7 @@ fn main() {
     ) {
         return;
     }
-    let mut input = [0u8; 4096];
+    let mut input = [0u8; 8192];
     let got = console::read_input(&mut input, b"report_strand: reading the input");
     let Input::Bytes(n) = got else {
         return;

@@ -48,10 +48,10 @@ fn byte(x: u8) {
 
 // Whether a strand is letters throughout, and with an N among them.
 fn strand(letters: &[u8]) {
-    let mut out = [0u8; 2048];
+    let mut out = [0u8; 4096];
     word(b"strand ");
     word(letters);
-    if letters.len() <= 2048 {
+    if letters.len() <= 4096 {
         match symbols::decode(letters, &mut out) {
             Decoded::Whole(unknown) => {
                 word(b" whole");
@@ -113,8 +113,8 @@ fn layout(lengths: &[u16]) {
 
 // What writing a message of B zero bytes on a layout answers.
 fn written(lengths: &[u16], b: u32) {
-    let message = [0u8; 256];
-    let mut out = [0u8; 2048];
+    let message = [0u8; 513];
+    let mut out = [0u8; 4096];
     word(b"write");
     layout(lengths);
     word(b" B");
@@ -139,8 +139,8 @@ fn written(lengths: &[u16], b: u32) {
 
 // What reading n letters A on a layout answers.
 fn read(lengths: &[u16], b: u32, n: usize) {
-    let letters = [b'A'; 2049];
-    let mut message = [0u8; 128];
+    let letters = [b'A'; 4097];
+    let mut message = [0u8; 512];
     let mut sheet = [0u8; 16];
     word(b"read");
     layout(lengths);
@@ -191,6 +191,7 @@ fn main() {
     width(4);
     width(5);
     width(64);
+    width(256);
     syndromes(b"013", &[0, 1, 3]);
     syndromes(b"210", &[2, 1, 0]);
     written(&[16u16; 8], 32);
@@ -200,10 +201,11 @@ fn main() {
     written(&[2u16; 64], 32);
     written(&[2u16; 66], 33);
     written(&[3u16; 1], 1);
-    written(&[65u16; 2], 32);
+    written(&[257u16; 2], 32);
     written(&[64u16; 8], 128);
-    written(&[64u16; 8], 129);
+    written(&[256u16; 8], 512);
+    written(&[256u16; 8], 513);
     written(&[8, 8, 16, 16, 32, 64, 64, 32, 16, 16, 8, 8], 72);
-    read(&[64u16; 8], 128, 2048);
-    read(&[64u16; 8], 128, 2049);
+    read(&[64u16; 8], 128, 4096);
+    read(&[64u16; 8], 128, 4097);
 }

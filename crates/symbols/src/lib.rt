@@ -9,6 +9,12 @@ ghost use Rattle.symbols.specs.Letters.{isLetter, allLetters};
 use code::Decoded;
 use code::Letter;
 
+// The most letters of a strand that is read in smaller arrays, so that less is cleared for it.
+pub const SHORT_LETTERS: usize = 1280;
+
+// The most bytes B of a message whose symbols stand in a smaller array.
+pub const SHORT_BYTES: u32 = 128;
+
 // Both hold.
 fn both(a: bool, b: bool) -> bool
     ensures { λ r. ⌜ r ≡ (a && b) ⌝ }

@@ -10,6 +10,7 @@ use lib.ListN.{take, replicate}
 use Rattle.code.specs.declared.Refusal.the-variants.{MessageSize}
 use Rattle.code.specs.declared.Wrote.{Wrote}
 use Rattle.code.specs.declared.Wrote.the-variants as W
+use Rattle.code.specs.Limits.{mostBytes, mostLetters}
 use Rattle.code.specs.Order.{Order}
 use Rattle.code.specs.Writing.{writeCall}
 use Rattle.text.specs.Lines.{feed}
@@ -22,9 +23,9 @@ unfoldable pub written : Wrote × List ℕ → List ℕ
 written (W.Bytes n, strand) = take n strand ++ feed ∷ []
 written (W.Refused r, strand) = refusedLine r
 
--- the same for an order and a line, with a buffer of zeros: the line is at most 128 bytes in hexadecimal digits, or refused 2
+-- the same for an order and a line, with a buffer of zeros: the line is at most 512 bytes in hexadecimal digits, or refused 2
 unfoldable pub writeText : Order → List ℕ → List ℕ
-writeText o digits = cond (decodable digits 128) (written (writeCall o (hexBytes digits) (replicate 2048 0))) (refusedLine MessageSize)
+writeText o digits = cond (decodable digits mostBytes) (written (writeCall o (hexBytes digits) (replicate mostLetters 0))) (refusedLine MessageSize)
 
 -- what is printed for an input: its first line holds the label, its second the message
 unfoldable pub writeOutput : List ℕ → List ℕ
@@ -32,4 +33,4 @@ writeOutput input = printed writeText input
 
 -- room for all that is printed: the buffer and a line feed
 abbrev pub outputRoom : ℕ
-outputRoom = 2048 + 1
+outputRoom = mostLetters + 1

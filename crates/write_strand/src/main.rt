@@ -12,6 +12,7 @@ use text::put::put;
 ghost use mathlib.Core.Path.{_≡_};
 ghost use Prim.Native.Nat.{_≤_};
 ghost use lib.ListN.{length, take, replicate};
+ghost use Rattle.code.specs.Limits.{mostLetters};
 ghost use Rattle.code.specs.Order.{order};
 ghost use Rattle.code.specs.Writing.{writeCall};
 ghost use Rattle.text.specs.Put.{Appended};
@@ -22,9 +23,9 @@ fn put_strand(out: &mut [u8], lengths: &[u16], b: u32, message: &[u8]) -> usize
     requires { ⌜ outputRoom ≤ length (now out) ⌝ }
     ensures { λ r. do
       let o = order (now (lengths .entry)) b in
-          ⌜ Appended (now (out .entry)) 0 (written (writeCall o (now (message .entry)) (replicate 2048 0))) (now (out .exit)) r ⌝ }
+          ⌜ Appended (now (out .entry)) 0 (written (writeCall o (now (message .entry)) (replicate mostLetters 0))) (now (out .exit)) r ⌝ }
 {
-    let mut strand = [0u8; 2048];
+    let mut strand = [0u8; 4096];
     match writer::write(lengths, b, message, &mut strand) {
         Wrote::Bytes(n) => {
             let end = put(out, 0, front(&strand, n));
@@ -34,14 +35,14 @@ fn put_strand(out: &mut [u8], lengths: &[u16], b: u32, message: &[u8]) -> usize
     }
 }
 
-// The same for the line that holds the message: at most 128 bytes, two digits each, or refused 2.
+// The same for the line that holds the message: at most 512 bytes, two digits each, or refused 2.
 fn put_message(out: &mut [u8], lengths: &[u16], b: u32, digits: &[u8]) -> usize
     requires { ⌜ outputRoom ≤ length (now out) ⌝ }
     ensures { λ r. do
       let o = order (now (lengths .entry)) b in
           ⌜ Appended (now (out .entry)) 0 (writeText o (now (digits .entry))) (now (out .exit)) r ⌝ }
 {
-    let mut message = [0u8; 128];
+    let mut message = [0u8; 512];
     match text::hex::decode(digits, &mut message) {
         Hex::Bytes(n) => put_strand(out, lengths, b, front(&message, n)),
         Hex::Bad => put_refused(out, 0, Refusal::MessageSize),
@@ -70,12 +71,12 @@ fn main() {
     ) {
         return;
     }
-    let mut input = [0u8; 4096];
+    let mut input = [0u8; 8192];
     let got = console::read_input(&mut input, b"write_strand: reading the input");
     let Input::Bytes(n) = got else {
         return;
     };
-    let mut out = [0u8; 2049];
+    let mut out = [0u8; 4097];
     let end = output(front(&input, n), &mut out);
     console::write_output(front(&out, end), b"write_strand: writing the output");
 }

@@ -2,6 +2,7 @@
 use code::Checked;
 use code::Refusal;
 use code::Wrote;
+use symbols::SHORT_BYTES;
 ghost use mathlib.Core.Path.{_≡_};
 ghost use mathlib.Core.Bool.{false};
 ghost use Prim.Native.Nat.{_*_, _≤_};
@@ -51,22 +52,21 @@ fn write_layout(lengths: &[u16], symbols: &[u8], out: &mut [u8]) -> usize
     at
 }
 
-// The letters of the strand that carries bytes on a layout, at the front of `out`.
-fn write_letters(lengths: &[u16], message: &[u8], out: &mut [u8])
-    requires { ⌜ Lengths longest (now lengths) × (length (now message) ≤ mostBytes) ⌝ }
+// The letters of the strand that carries bytes on a layout, at the front of `out`; their symbols stand in `buffer`, which is lent.
+fn write_letters(lengths: &[u16], message: &[u8], buffer: &mut [u8], out: &mut [u8])
+    requires { ⌜ Lengths longest (now lengths) × (4 * length (now message) ≤ length (now buffer)) × (length (now message) ≤ mostBytes) ⌝ }
     requires { ⌜ (sum (now lengths) ≡ 4 * length (now message)) × (extent false (now lengths) ≤ length (now out)) ⌝ }
     ensures { λ _. ⌜ now (out .exit) ≡ overFront (strandOf (now (lengths .entry)) (now (message .entry))) (now (out .entry)) ⌝ }
 {
-    let mut buffer = [0u8; 512];
-    packing::unpack(message, &mut buffer);
     let n = 4 * message.len();
+    packing::unpack(message, buffer);
     let end = write_layout(lengths, &buffer[..n], out);
     symbols::spell(&mut out[..end]);
 }
 
 // Writes a strand: `message`, of B = `b` bytes, on the layout `lengths`, as the letters A, T, C and G at the front of `out`.
 // Answers the number of letters: for each segment of k symbols k + t + 6, and for the first two fewer.
-// Turned down, in this order: 1 a length is not 2 to 64; 2 B is not 1 to 128, or `message` has not B bytes; 3 there are no lengths
+// Turned down, in this order: 1 a length is not 2 to 256; 2 B is not 1 to 512, or `message` has not B bytes; 3 there are no lengths
 // or more than 64, or they do not sum to 4B; 5 `out` has fewer bytes than the strand has letters.
 // The bytes of `out` behind the strand are untouched; a refusal leaves all of `out` as it was.
 pub fn write(lengths: &[u16], b: u32, message: &[u8], out: &mut [u8]) -> Wrote
@@ -83,6 +83,12 @@ pub fn write(lengths: &[u16], b: u32, message: &[u8], out: &mut [u8]) -> Wrote
     if out.len() < n {
         return Wrote::Refused(Refusal::ShortBuffer);
     }
-    write_letters(lengths, message, out);
+    if b <= SHORT_BYTES {
+        let mut buffer = [0u8; 512];
+        write_letters(lengths, message, &mut buffer, out);
+        return Wrote::Bytes(n);
+    }
+    let mut buffer = [0u8; 2048];
+    write_letters(lengths, message, &mut buffer, out);
     Wrote::Bytes(n)
 }

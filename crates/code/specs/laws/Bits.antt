@@ -5,6 +5,7 @@
 --   bits-low                      the lowest bits are those of the remainder
 --   number-zeros, bits-zero       zero bits write 0
 --   number-least                  w bits write a number below 2 ^ w
+--   drop-bits                     what stands behind a number's bits
 --   number-front, number-part     the number in some bits of a number
 --   bits-take                     bits are those of the number that they write
 --   length-inBits, inBits-append  numbers in bits
@@ -14,7 +15,6 @@
 --   fromBits-front                what stands behind the numbers is not read
 --   fromBits-inBits               numbers in bits are read again
 --   inBits-fromBits               the bits of numbers that are read
---   spare                         how many zero bits fill the last byte
 --   inBytes-bits                  the bits of a word's bytes: the word, and zeros
 --   bytes-back                    bytes whose bits are a word and zeros are the bytes of that word
 use mathlib.Core.Path.{_≡_, refl, sym, ap, _∙_}
@@ -28,7 +28,7 @@ use lib.Seq.{take-at, drop-at, take-add, drop-nil, drop-drop, take-append-add, t
 use lib.Pow.{pow-add, shr-shr, high, low, mod-mod-pow, pow-mono}
 use Rattle.code.specs.Symbols.{Below}
 use Rattle.code.specs.Layers.{Word, bits, number}
-use Rattle.code.specs.Label.{inBits, fromBits, bytesFor, inBytes}
+use Rattle.code.specs.Label.{inBits, fromBits, bytesFor, spare, inBytes}
 use Rattle.code.specs.laws.Lists.{take-replicate}
 use Rattle.code.specs.laws.Below.{below-take}
 use Rattle.code.specs.laws.Layers.{length-bits, number-below, number-bits, bits-number}
@@ -87,7 +87,7 @@ number-least w bs =
     omega (arith, number-below (take w bs), pow-mono l)
 
 -- what stands behind a number's bits
-drop-bits : (w x m : ℕ) (rest : Word) → drop (w + m) (bits w x ++ rest) ≡ drop m rest
+pub drop-bits : (w x m : ℕ) (rest : Word) → drop (w + m) (bits w x ++ rest) ≡ drop m rest
 drop-bits w x m rest = sym (drop-drop m w (bits w x ++ rest)) ∙ ap (drop m) (drop-at (bits w x) rest w (length-bits w x))
 
 -- the number in the first bits
@@ -174,10 +174,6 @@ fromBits-take w n xs h room =
     rw e (ap (λ (k : ℕ). fromBits w k (inBits w (take n xs) ++ inBits w (drop n xs))) (sym l) ∙ fromBits-inBits w (take n xs) (inBits w (drop n xs)) (below-take n xs h))
 
 -- A word's bytes
-
--- how many zero bits fill the last byte of n bits
-abbrev pub spare : ℕ → ℕ
-spare n = 8 * bytesFor n - n
 
 -- the bits of a word's bytes: the word, and zeros
 pub inBytes-bits : (w : Word) → inBits 8 (inBytes w) ≡ w ++ replicate (spare (length w)) false

@@ -1,21 +1,23 @@
 -- The fields of a label, written and read again.
---   edition1-number, edition2-number   the fields of an edition as one number
---   length-edition1, length-edition2   how many bits they have
---   Fields1, Fields2                   what stands in a label
---   fields1, fields2                   the fields of a label whose bits are known
---   edition1-back, edition2-back       the bits of a label whose fields are known
+--   edition1-number, listing-number   the fields of an edition as one number
+--   length-edition1, length-listing   how many bits they have
+--   Fields1, Listed                   what stands in a label
+--   fields1, fields-listed            the fields of a label whose bits are known
+--   edition1-back, listing-back       the bits of a label whose fields are known
 use mathlib.Core.Path.{_≡_, sym, ap, _∙_}
 use mathlib.Core.Bool.{false}
 use mathlib.Core.List.{List, _++_, append-assoc}
 use Prim.Native.Nat.{ℕ, _+_, _*_, _^_, _<_, _≤_}
+use native.Mathlib.Nat.{mod-eq-of-lt}
 use native.Mathlib.Omega.{arith}
 use lib.ListN.{length, take, drop, replicate, length-append, length-drop, length-replicate}
 use lib.Seq.{drop-at, take-at, take-add}
 use Rattle.code.specs.Symbols.{Below}
 use Rattle.code.specs.Layers.{Word, bits}
 use Rattle.code.specs.laws.Layers.{length-bits}
-use Rattle.code.specs.laws.Bits.{bits-join, number-part, number-zeros, bits-take, length-inBits, length-fromBits, fromBits-inBits, inBits-fromBits, spare}
-use Rattle.code.specs.Label.{inBits, edition1, edition2, field, editionOf, lengthIn, bytesIn1, bytesIn2, countIn, endOfLengths, lengthsIn}
+use Rattle.code.specs.Order.{Order, order}
+use Rattle.code.specs.laws.Bits.{bits-join, number-front, number-part, number-zeros, drop-bits, bits-take, length-inBits, length-fromBits, fromBits-inBits, inBits-fromBits}
+use Rattle.code.specs.Label.{inBits, spare, edition1, bytesBits, lengthBits, listing, field, editionOf, lengthIn, bytesIn1, bytesIn, countIn, lengthsAt, endOfLengths, lengthsIn}
 
 -- the fields of edition 1 as one number of 32 bits
 pub edition1-number : (k b : ℕ) → k < 2 ^ 7 → b < 2 ^ 8 → edition1 k b ≡ bits 32 (2 ^ 28 + k * 2 ^ 21 + b * 2 ^ 13)
@@ -25,18 +27,21 @@ edition1-number k b hk hb =
     let r : bits 19 ((1 * 2 ^ 7 + k) * 2 ^ 8 + b) ++ bits 13 0 ≡ bits 32 (((1 * 2 ^ 7 + k) * 2 ^ 8 + b) * 2 ^ 13 + 0) = sym (bits-join 19 13 ((1 * 2 ^ 7 + k) * 2 ^ 8 + b) 0 (omega arith)) in
     rw (p, q, r) (ap (bits 32) (omega arith))
 
--- the fields of edition 2 before its lengths as one number of 19 bits
-pub edition2-number : (ks : List ℕ) (b : ℕ) → b < 2 ^ 8 → length ks < 2 ^ 7 → edition2 ks b ≡ bits 19 (2 ^ 16 + b * 2 ^ 7 + length ks) ++ inBits 7 ks
-edition2-number ks b hb hn =
-    let p : bits 4 2 ++ bits 8 b ≡ bits 12 (2 * 2 ^ 8 + b) = sym (bits-join 4 8 2 b hb) in
-    let q : bits 12 (2 * 2 ^ 8 + b) ++ bits 7 (length ks) ≡ bits 19 ((2 * 2 ^ 8 + b) * 2 ^ 7 + length ks) = sym (bits-join 12 7 (2 * 2 ^ 8 + b) (length ks) hn) in
-    rw (p, q) (ap (λ (n : ℕ). bits 19 n ++ inBits 7 ks) (omega arith))
+-- the fields of a listing before its lengths as one number
+pub listing-number : (e : ℕ) (o : Order) → o .b < 2 ^ bytesBits e → length (o .lengths) < 2 ^ 7 → listing e o ≡ bits (4 + bytesBits e + 7) ((e * 2 ^ bytesBits e + o .b) * 2 ^ 7 + length (o .lengths)) ++ inBits (lengthBits e) (o .lengths)
+listing-number e o hb hn =
+    let w = bytesBits e in
+    let n = length (o .lengths) in
+    let x = e * 2 ^ w + o .b in
+    let p : bits 4 e ++ bits w (o .b) ≡ bits (4 + w) x = sym (bits-join 4 w e (o .b) hb) in
+    let q : bits (4 + w) x ++ bits 7 n ≡ bits (4 + w + 7) (x * 2 ^ 7 + n) = sym (bits-join (4 + w) 7 x n hn) in
+    ap (λ (u : Word). u ++ inBits (lengthBits e) (o .lengths)) (ap (λ (u : Word). u ++ bits 7 n) p ∙ q)
 
 pub length-edition1 : (k b : ℕ) → length (edition1 k b) ≡ 32
 length-edition1 k b = simp (length-append, length-bits)
 
-pub length-edition2 : (ks : List ℕ) (b : ℕ) → length (edition2 ks b) ≡ 19 + 7 * length ks
-length-edition2 ks b = simp (length-append, length-bits, length-inBits)
+pub length-listing : (e : ℕ) (o : Order) → length (listing e o) ≡ 11 + bytesBits e + lengthBits e * length (o .lengths)
+length-listing e o = simp (length-append, length-bits, length-inBits) (omega arith)
 
 -- what stands in a label of edition 1
 pub record Fields1 (label : List ℕ) (k b : ℕ) : Type 0 where
@@ -56,27 +61,48 @@ fields1 label k b rest hk hb e =
       rest-of = rw f (number-part 19 13 0 n rest ∙ omega arith);
     }
 
--- what stands in a label of edition 2
-pub record Fields2 (label ks : List ℕ) (b : ℕ) : Type 0 where
-  pub edition : editionOf label ≡ 2
-  pub bytes-of : bytesIn2 label ≡ b
-  pub count-of : countIn label ≡ length ks
-  pub lengths-of : lengthsIn label ≡ ks
+-- what stands in a label of edition e that lists the lengths of an order
+pub record Listed (label : List ℕ) (e : ℕ) (o : Order) : Type 0 where
+  pub edition : editionOf label ≡ e
+  pub bytes-of : bytesIn label ≡ o .b
+  pub count-of : countIn label ≡ length (o .lengths)
+  pub lengths-of : lengthsIn label ≡ o .lengths
   pub rest-of : field (endOfLengths label) (spare (endOfLengths label)) label ≡ 0
 
-pub fields2 : (label ks : List ℕ) (b : ℕ) (rest : Word) → b < 2 ^ 8 → length ks < 2 ^ 7 → Below (2 ^ 7) ks → inBits 8 label ≡ edition2 ks b ++ (replicate (spare (19 + 7 * length ks)) false ++ rest) → Fields2 label ks b
-fields2 label ks b rest hb hn hk e =
-    let n = 2 ^ 16 + b * 2 ^ 7 + length ks in
-    let z = replicate (spare (19 + 7 * length ks)) false ++ rest in
-    let f : inBits 8 label ≡ bits 19 n ++ (inBits 7 ks ++ z) = e ∙ rw (edition2-number ks b hb hn) (append-assoc (bits 19 n) (inBits 7 ks) z) in
-    let count : countIn label ≡ length ks = rw f (number-part 12 7 0 n (inBits 7 ks ++ z) ∙ omega arith) in
-    let behind : drop (19 + 7 * length ks) (inBits 8 label) ≡ z = rw e (drop-at (edition2 ks b) z (19 + 7 * length ks) (length-edition2 ks b)) in
+-- an order fits the fields of an edition
+pub record Fits (e : ℕ) (o : Order) : Type 0 where
+  pub edition : e < 2 ^ 4
+  pub bytes : o .b < 2 ^ bytesBits e
+  pub count : length (o .lengths) < 2 ^ 7
+  pub lengths : Below (2 ^ lengthBits e) (o .lengths)
+
+pub fields-listed : (label : List ℕ) (e : ℕ) (o : Order) (rest : Word) → Fits e o → inBits 8 label ≡ listing e o ++ (replicate (spare (length (listing e o))) false ++ rest) → Listed label e o
+fields-listed label e o rest h is =
+    let w = bytesBits e in
+    let v = lengthBits e in
+    let ks = o .lengths in
+    let n = length ks in
+    let end = 11 + w + v * n in
+    let zeros = replicate (spare end) false in
+    let z = zeros ++ rest in
+    let all : inBits 8 label ≡ listing e o ++ z = is ∙ ap (λ (m : ℕ). listing e o ++ (replicate (spare m) false ++ rest)) (length-listing e o) in
+    let lengths-z = inBits v ks ++ z in
+    let count-z = bits 7 n ++ lengths-z in
+    let bytes-z = bits w (o .b) ++ count-z in
+    let f : inBits 8 label ≡ bits 4 e ++ bytes-z = all ∙ simp append-assoc in
+    let edition-of : editionOf label ≡ e = rw f (number-front 4 e bytes-z ∙ mod-eq-of-lt (h .edition)) in
+    let bytes-of : field 4 w label ≡ o .b = rw (f, drop-at (bits 4 e) bytes-z 4 (length-bits 4 e)) (number-front w (o .b) count-z ∙ mod-eq-of-lt (h .bytes)) in
+    let count-of : field (4 + w) 7 label ≡ n = rw (f, drop-bits 4 e w bytes-z, drop-at (bits w (o .b)) count-z w (length-bits w (o .b))) (number-front 7 n lengths-z ∙ mod-eq-of-lt (h .count)) in
+    let places : 11 + w ≡ 4 + (w + 7) = omega arith in
+    let lengths-of : drop (11 + w) (inBits 8 label) ≡ lengths-z =
+    ap (λ (m : ℕ). drop m (inBits 8 label)) places ∙ rw (f, drop-bits 4 e (w + 7) bytes-z, drop-bits w (o .b) 7 count-z) (drop-at (bits 7 n) lengths-z 7 (length-bits 7 n)) in
+    let behind : drop end (inBits 8 label) ≡ z = rw all (drop-at (listing e o) z end (length-listing e o)) in
     record {
-      edition = rw f (number-part 0 4 15 n (inBits 7 ks ++ z) ∙ omega arith);
-      bytes-of = rw f (number-part 4 8 7 n (inBits 7 ks ++ z) ∙ omega arith);
-      count-of = count;
-      lengths-of = rw (count, f, drop-at (bits 19 n) (inBits 7 ks ++ z) 19 (length-bits 19 n)) (fromBits-inBits 7 ks z hk);
-      rest-of = rw (count, behind, take-at (replicate (spare (19 + 7 * length ks)) false) rest _ (length-replicate _ false)) (number-zeros (spare (19 + 7 * length ks)));
+      edition = edition-of;
+      bytes-of = rw edition-of bytes-of;
+      count-of = rw edition-of count-of;
+      lengths-of = rw (edition-of, count-of, lengths-of) (fromBits-inBits v ks z (h .lengths));
+      rest-of = rw (edition-of, count-of, behind, take-at zeros rest (spare end) (length-replicate (spare end) false)) (number-zeros (spare end));
     }
 
 -- some bits of bytes are those of the field that stands there
@@ -93,15 +119,18 @@ edition1-back bs room e z =
     ∙ (λ j. ((part-bits bs 0 4 (omega arith) j ++ part-bits bs 4 7 (omega arith) j) ++ bits 8 (bytesIn1 bs)) ++ bits 13 0)
     ∙ (λ j. ((bits 4 (e j) ++ bits 7 (lengthIn bs)) ++ bits 8 (bytesIn1 bs)) ++ bits 13 0)
 
--- the bits of a label of edition 2 up to the end of its lengths are its fields
-pub edition2-back : (bs : List ℕ) → endOfLengths bs ≤ 8 * length bs → editionOf bs ≡ 2 → take (endOfLengths bs) (inBits 8 bs) ≡ edition2 (lengthsIn bs) (bytesIn2 bs)
-edition2-back bs room e =
+-- the bits of a label up to the end of the lengths that it lists are its fields
+pub listing-back : (bs : List ℕ) → endOfLengths bs ≤ 8 * length bs → take (endOfLengths bs) (inBits 8 bs) ≡ listing (editionOf bs) (order (lengthsIn bs) (bytesIn bs))
+listing-back bs room =
     let b = inBits 8 bs in
-    let n : length (lengthsIn bs) ≡ countIn bs = length-fromBits 7 (countIn bs) (drop 19 b) in
-    let rest : take (7 * countIn bs) (drop 19 b) ≡ inBits 7 (lengthsIn bs) =
-    sym (inBits-fromBits 7 (countIn bs) (drop 19 b) (rw (length-drop 19 b, length-inBits 8 bs) (omega arith))) in
-    take-add 19 (7 * countIn bs) b
-    ∙ (λ j. take-add 12 7 b j ++ rest j)
-    ∙ (λ j. (take-add 4 8 b j ++ part-bits bs 12 7 (omega arith) j) ++ inBits 7 (lengthsIn bs))
-    ∙ (λ j. ((part-bits bs 0 4 (omega arith) j ++ part-bits bs 4 8 (omega arith) j) ++ bits 7 (sym n j)) ++ inBits 7 (lengthsIn bs))
-    ∙ (λ j. ((bits 4 (e j) ++ bits 8 (bytesIn2 bs)) ++ bits 7 (length (lengthsIn bs))) ++ inBits 7 (lengthsIn bs))
+    let w = bytesBits (editionOf bs) in
+    let v = lengthBits (editionOf bs) in
+    let n : length (lengthsIn bs) ≡ countIn bs = length-fromBits v (countIn bs) (drop (lengthsAt bs) b) in
+    let rest : take (v * countIn bs) (drop (lengthsAt bs) b) ≡ inBits v (lengthsIn bs) =
+    sym (inBits-fromBits v (countIn bs) (drop (lengthsAt bs) b) (rw (length-drop (lengthsAt bs) b, length-inBits 8 bs) (omega arith))) in
+    let places : lengthsAt bs ≡ 4 + w + 7 = omega arith in
+    take-add (lengthsAt bs) (v * countIn bs) b
+    ∙ (λ j. take (places j) b ++ rest j)
+    ∙ (λ j. take-add (4 + w) 7 b j ++ inBits v (lengthsIn bs))
+    ∙ (λ j. (take-add 4 w b j ++ part-bits bs (4 + w) 7 (omega arith) j) ++ inBits v (lengthsIn bs))
+    ∙ (λ j. ((part-bits bs 0 4 (omega arith) j ++ part-bits bs 4 w (omega arith) j) ++ bits 7 (sym n j)) ++ inBits v (lengthsIn bs))

@@ -1,8 +1,8 @@
 -- How many letters the strand of an order within the limits has, written and received.
 --   width-line    t grows slowly with k
 --   extent-line   so does the strand with its symbols and segments
---   extent-most   the written strand has at most 1,198 letters
---   readable      one that keeps the one-edit conditions has at most 1,262, and no foreign letter
+--   extent-most   the written strand has at most 2,874 letters
+--   readable      one that keeps the one-edit conditions has at most 2,938, and no foreign letter
 use mathlib.Core.Path.{_≡_, refl, ap, _∙_}
 use mathlib.Core.Bool.{Bool, true, false}
 use mathlib.Core.List.{List, [], _∷_, map}
@@ -10,7 +10,7 @@ use Prim.Native.Nat.{ℕ, zero, suc, _+_, _*_, _^_, _≤_, _<_}
 use native.Mathlib.Nat.{pow-succ', lt-of-not-le}
 use native.Mathlib.Omega.{arith}
 use lib.ListN.{length, length-append, length-take, length-drop, length-set}
-use lib.Pow.{pow-pos}
+use lib.Pow.{pow-mono}
 use Rattle.code.specs.declared.Edit.{Edit}
 use Rattle.code.specs.declared.Edit.the-variants.{None, Sub, Del, Ins}
 use Rattle.code.specs.declared.Decoded.the-variants as D
@@ -58,20 +58,22 @@ received-below marked f (m ∷ ms) (e ∷ es) (both b bs) h =
     (received-below true (lastOf m) ms es bs (h .2))
 
 -- a power of two is above a line
-power-line : (j : ℕ) → 4 * j ≤ 2 ^ j + 4
+power-line : (j : ℕ) → 16 * j ≤ 2 ^ j + 48
 power-line zero = omega arith
 power-line (suc zero) = omega arith
 power-line (suc (suc zero)) = omega arith
-power-line (suc (suc (suc j))) = omega (arith, power-line (suc (suc j)), pow-succ' 2 (suc (suc j)), four-le j)
-  where
-    four-le : (j : ℕ) → 4 ≤ 2 ^ (suc (suc j))
-    four-le j = omega (arith, pow-succ' 2 (suc j), pow-succ' 2 j, pow-pos j)
+power-line (suc (suc (suc zero))) = omega arith
+power-line (suc (suc (suc (suc zero)))) = omega arith
+power-line (suc (suc (suc (suc (suc j))))) =
+    let n = suc (suc (suc (suc j))) in
+    let sixteen : 2 ^ 4 ≤ 2 ^ n = pow-mono {i = 4} {j = n} (omega arith) in
+    omega (arith, power-line (suc (suc (suc (suc j)))), pow-succ' 2 n, sixteen)
 
--- t grows slowly: 4t is at most k + 11
-width-line : (k : ℕ) → 2 ≤ k → 4 * width k ≤ k + 11
+-- t grows slowly: 16t is at most k + 79
+width-line : (k : ℕ) → 2 ≤ k → 16 * width k ≤ k + 79
 width-line k h = go (width k) refl
   where
-    go : (t : ℕ) → width k ≡ t → 4 * width k ≤ k + 11
+    go : (t : ℕ) → width k ≡ t → 16 * width k ≤ k + 79
     go zero e = omega arith
     go (suc zero) e = omega arith
     go (suc (suc j)) e =
@@ -79,7 +81,7 @@ width-line k h = go (width k) refl
         omega (arith, power-line j, p, pow-succ' 2 j)
 
 -- the segments of a layout, each with a marker
-pub extent-line : {most : ℕ} (ks : List ℕ) → Lengths most ks → 4 * extent true ks ≤ 5 * sum ks + 35 * length ks
+pub extent-line : {most : ℕ} (ks : List ℕ) → Lengths most ks → 16 * extent true ks ≤ 17 * sum ks + 175 * length ks
 unfolding extent sum size
 extent-line [] done = omega arith
 extent-line (k ∷ ks) (more h m hs) = omega (arith, extent-line ks hs, width-line k h)

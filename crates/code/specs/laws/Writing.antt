@@ -19,7 +19,7 @@ use Rattle.code.specs.Symbols.{letterOf, symbols}
 use Rattle.code.specs.laws.Symbols.{length-symbols}
 use Rattle.code.specs.Layout.{sum, cut, strand, extent}
 use Rattle.code.specs.laws.Layout.{length-strand-cut}
-use Rattle.code.specs.Limits.{mostBytes}
+use Rattle.code.specs.Limits.{mostLength, mostBytes}
 use Rattle.code.specs.Refusals.{refuse, outside}
 use Rattle.code.specs.Order.{Order, badLength, badCut, orderTest}
 use Rattle.code.specs.laws.Order.{order-fine, order-then, order-refused}
@@ -52,7 +52,7 @@ module _ (o : Order) (bs : List ℕ) (n : ℕ) where
 
 -- a short buffer is told only where order and message are
 pub short-ordered : (o : Order) (bs : List ℕ) (n : ℕ) → writeTest o bs n ≡ Refused ShortBuffer → ordered o bs n ≡ Fine
-short-ordered o bs n e = go (badLength (o .lengths)) (outside 1 mostBytes (o .b) || not (eqb (length bs) (o .b))) (badCut o) (refuse (ltb n (extent false (o .lengths))) ShortBuffer Fine) e
+short-ordered o bs n e = go (badLength mostLength (o .lengths)) (outside 1 mostBytes (o .b) || not (eqb (length bs) (o .b))) (badCut o) (refuse (ltb n (extent false (o .lengths))) ShortBuffer Fine) e
   where
     go : (p q r : Bool) (next : Checked) → refuse p SegmentLength (refuse q MessageSize (refuse r Cut next)) ≡ Refused ShortBuffer → refuse p SegmentLength (refuse q MessageSize (refuse r Cut Fine)) ≡ Fine
     go true q r next d = let z : _≡_ {A = ℕ} 0 1 = cc in absurd (omega arith)

@@ -1,24 +1,21 @@
-use mathlib.Core.Path.{sym, _∙_}
+use mathlib.Core.Path.{_≡_, ap, _∙_}
+use mathlib.Core.Bool.{false}
 use borrow.Author.Needs.{needs}
-use borrow.Author.Tests.{not-false, not-true}
-use Rattle.console.proofs.Lines.{no-digits, other-size, label-line}
+use Rattle.code.specs.Label.{labelRead}
+use Rattle.text.specs.declared.hex.Hex.the-variants.{Bytes}
+use Rattle.console.specs.LabelLine.{holdsLabel, Held}
 use Rattle.console.proofs.order_of.Statement.{statement}
 use Rattle.console.proofs.order_of.Tie as tie
 
 returns : tie.Need-returns
 returns c =
-    let d = c .before .before .before .before .decode in
-    c .refused .ensures ∙ no-digits (c .before .before .before .before .before .before .before .args .line .now) (d .last .1 .0) ((λ i. (sym (c .before .enum-told .given .1) i, d .last .1 .0)) ∙ d .ensures)
+    let h : holdsLabel (c .before .before .before .before .before .before .before .args .line .now) ≡ false = rw (c .before .enum-told .given .1) at (c .before .before .before .before .label-of .ensures) in
+    rw h (c .refused .ensures)
 
 returns-2 : tie.Need-returns-2
 returns-2 c =
-    let d = c .before .before .before .before .before .before .before .before .before .decode in
-    c .refused2 .ensures ∙ other-size (c .before .before .before .before .before .before .before .before .before .before .before .before .args .line .now) (d .last .1 .0) _ ((λ i. (sym (c .before .before .before .before .before .before .n .given .1) i, d .last .1 .0)) ∙ d .ensures) _ (c .before .before .before .front .ensures) (sym (c .before .before .is-whole .ensures) ∙ not-true _ (c .before .if1 .taken))
-
-returns-3 : tie.Need-returns-3
-returns-3 c =
-    let d = c .before .before .before .before .before .before .before .before .before .decode in
-    c .read .ensures ∙ label-line (c .before .before .before .before .before .before .before .before .before .before .before .before .args .line .now) (d .last .1 .0) _ ((λ i. (sym (c .before .before .before .before .before .before .n .given .1) i, d .last .1 .0)) ∙ d .ensures) _ (c .before .before .before .front .ensures) (sym (c .before .before .is-whole .ensures) ∙ not-false _ (c .before .if1 .left))
+    let h : Held (c .before .before .before .before .before .before .before .before .before .before .args .line .now) (Bytes (c .before .before .before .before .n .given .0 .0)) _ = rw (c .before .before .before .before .n .given .1) at (c .before .before .before .before .before .before .before .label-of .ensures) in
+    rw (h .0) (c .read .ensures ∙ ap labelRead (c .before .front .ensures ∙ h .1))
 
 pub order-of-spec : {M : Type 1} → statement M
 order-of-spec =
@@ -33,7 +30,4 @@ order-of-spec =
     (λ c. search needs)
     (λ c κs. search needs)
     (λ c κs. search needs)
-    (λ c κs. search needs)
-    returns-2
-    (λ c κs. search needs)
-    returns-3)
+    returns-2)

@@ -5,6 +5,7 @@ use Prim.Native.Nat.{ℕ, _*_, _/_}
 use native.Mathlib.Omega.{arith}
 use borrow.Author.Needs.{needs}
 use lib.ListN.{length, take, drop, replicate, length-take}
+use lib.Seq.{length-take-le}
 use Rattle.code.specs.Symbols.{bytes}
 use Rattle.code.specs.laws.Symbols.{length-bytes}
 use Rattle.code.specs.laws.Layout.{lengths-within}
@@ -16,7 +17,7 @@ use Rattle.code.specs.Verdicts.{verdictNumber, verdictOf}
 use Rattle.code.specs.laws.Verdicts.{marks-back}
 use Rattle.code.specs.laws.MessageBelow.{messages-below, marks-below}
 use Rattle.code.specs.laws.ReadCall.{length-sheet}
-use Rattle.reading.proofs.Fronts.{lent-symbols, lent-entries, Front, front-put, front-below, over-front, messages-length, numbers-length, marks-length}
+use Rattle.reading.proofs.Fronts.{lent-entries, Front, front-put, front-below, over-front, messages-length, numbers-length, marks-length}
 use Rattle.reader.proofs.Calls.{room}
 use Rattle.reader.proofs.read_letters.Statement.{statement}
 use Rattle.reader.proofs.read_letters.Tie as tie
@@ -32,77 +33,74 @@ entries : (b : tie.Start) → length {A = ℕ} (take (length (b .args .lengths .
 entries b = lent-entries (order-of b) (b .pre .1 .0)
 
 -- the messages in the array of symbols
-symbols-front : (c : tie.After-read-layout) → let a = c .before .before .before .before .before .before .before .before .args in Front (4 * a .b) (messagesOf (outcomes (a .lengths .now) (a .letters .now))) (c .read-layout .last .1 .1 .1 .0 ++ drop (4 * a .b) (replicate 512 0))
+symbols-front : (c : tie.After-read-layout) → let a = c .before .before .before .before .before .before .before .before .before .args in Front (4 * a .b) (messagesOf (outcomes (a .lengths .now) (a .letters .now))) (c .read-layout .last .1 .1 .1 .0 ++ drop (4 * a .b) (a .symbols .now))
 symbols-front c =
-    let b = c .before .before .before .before .before .before .before .before in
-    front-put _ _ (drop (4 * b .args .b) (replicate 512 0)) _ (c .read-layout .ensures .messages) (messages-length (order-of b) (b .pre .1 .0) (b .args .letters .now))
+    let b = c .before .before .before .before .before .before .before .before .before in
+    front-put _ _ (drop (4 * b .args .b) (b .args .symbols .now)) _ (c .read-layout .ensures .messages) (messages-length (order-of b) (b .pre .1 .0) (b .args .letters .now))
 
 -- the numbers of the verdicts in the array of verdicts
-verdicts-front : (c : tie.After-read-layout) (r : List ℕ) → let a = c .before .before .before .before .before .before .before .before .args in Front (length (a .lengths .now)) (map verdictNumber (verdictsOf (outcomes (a .lengths .now) (a .letters .now)))) (c .read-layout .last .1 .1 .1 .1 .0 ++ r)
+verdicts-front : (c : tie.After-read-layout) (r : List ℕ) → let a = c .before .before .before .before .before .before .before .before .before .args in Front (length (a .lengths .now)) (map verdictNumber (verdictsOf (outcomes (a .lengths .now) (a .letters .now)))) (c .read-layout .last .1 .1 .1 .1 .0 ++ r)
 verdicts-front c r =
-    let b = c .before .before .before .before .before .before .before .before in
+    let b = c .before .before .before .before .before .before .before .before .before in
     front-put _ _ r _ (c .read-layout .ensures .numbers) (numbers-length (order-of b) (b .pre .1 .0) (b .args .letters .now))
 
 -- the marks in the array of marks
-marks-front : (c : tie.After-marks-of) → let a = c .before .before .before .before .before .before .before .before .before .before .before .before .before .before .before .before .before .before .before .args in Front (length (a .lengths .now)) (marksOf (verdictsOf (outcomes (a .lengths .now) (a .letters .now)))) (c .marks-of .last .1 .0 ++ drop (length (a .lengths .now)) (replicate 64 0))
+marks-front : (c : tie.After-marks-of) → let a = c .before .before .before .before .before .before .before .before .before .before .before .before .before .before .before .before .before .before .before .before .before .args in Front (length (a .lengths .now)) (marksOf (verdictsOf (outcomes (a .lengths .now) (a .letters .now)))) (c .marks-of .last .1 .0 ++ drop (length (a .lengths .now)) (replicate 64 0))
 marks-front c =
-    let b = c .before .before .before .before .before .before .before .before .before .before .before .before .before .before .before .before .before .before .before in
+    let b = c .before .before .before .before .before .before .before .before .before .before .before .before .before .before .before .before .before .before .before .before .before in
     let vs = verdictsOf (outcomes (b .args .lengths .now) (b .args .letters .now)) in
-    let numbers = verdicts-front (c .before .before .before .before .before .before .before .before .before .before .before) _ .entries in
+    let numbers = verdicts-front (c .before .before .before .before .before .before .before .before .before .before .before .before) _ .entries in
     front-put _ _ (drop (length (b .args .lengths .now)) (replicate 64 0)) _ (c .marks-of .ensures ∙ ap (λ (ns : List ℕ). marksOf (map verdictOf ns)) numbers ∙ marks-back vs) (marks-length (order-of b) (b .pre .1 .0) (b .args .letters .now))
 
-array-borrow-prefix-symbols : tie.Need-array-borrow-prefix-symbols
-array-borrow-prefix-symbols c = omega (arith, ordered (c .before .before .before .before) .most-bytes)
-
 slice-aggregate-read-layout : tie.Need-slice-aggregate-read-layout
-slice-aggregate-read-layout c = sym (lent-symbols _ (c .before .before .before .before .before .pre .1 .0))
+slice-aggregate-read-layout c = sym (length-take-le _ _ (c .before .before .before .before .before .before .pre .0 .2))
 
 array-borrow-prefix-verdicts : tie.Need-array-borrow-prefix-verdicts
-array-borrow-prefix-verdicts c = omega (arith, ordered (c .before .before .before .before .before) .most-segments)
+array-borrow-prefix-verdicts c = omega (arith, ordered (c .before .before .before .before .before .before) .most-segments)
 
 slice-aggregate-read-layout-2 : tie.Need-slice-aggregate-read-layout-2
-slice-aggregate-read-layout-2 c = sym (entries (c .before .before .before .before .before .before))
+slice-aggregate-read-layout-2 c = sym (entries (c .before .before .before .before .before .before .before))
 
 array-borrow-prefix-ends : tie.Need-array-borrow-prefix-ends
-array-borrow-prefix-ends c = omega (arith, ordered (c .before .before .before .before .before .before) .most-segments)
+array-borrow-prefix-ends c = omega (arith, ordered (c .before .before .before .before .before .before .before) .most-segments)
 
 slice-aggregate-read-layout-3 : tie.Need-slice-aggregate-read-layout-3
-slice-aggregate-read-layout-3 c = sym (entries (c .before .before .before .before .before .before .before))
+slice-aggregate-read-layout-3 c = sym (entries (c .before .before .before .before .before .before .before .before))
 
 read-layout-requires : tie.Need-read-layout-requires
 read-layout-requires c κs =
-    let b = c .before .before .before .before .before .before .before in
+    let b = c .before .before .before .before .before .before .before .before in
     let o = ordered b in
-    ((b .pre .0 .0, lengths-within (o .lengths) (omega arith), b .pre .0 .1), (lent-symbols (order-of b) (b .pre .1 .0) ∙ sym (o .whole), entries b, entries b))
+    ((b .pre .0 .0, lengths-within (o .lengths) (omega arith), b .pre .0 .1), (length-take-le _ _ (b .pre .0 .2) ∙ sym (o .whole), entries b, entries b))
 
-array-share-prefix-symbols : tie.Need-array-share-prefix-symbols
-array-share-prefix-symbols c = omega (arith, symbols-front (c .before .before .before) .inside)
+slice-reshare-prefix-pack : tie.Need-slice-reshare-prefix-pack
+slice-reshare-prefix-pack c = omega (arith, symbols-front (c .before .before .before .before) .inside)
 
 slice-aggregate-pack : tie.Need-slice-aggregate-pack
-slice-aggregate-pack c = omega (arith, symbols-front (c .before .before .before .before) .count)
+slice-aggregate-pack c = omega (arith, symbols-front (c .before .before .before .before .before) .count)
 
 pack-requires : tie.Need-pack-requires
 pack-requires c κs =
-    let b = c .before .before .before .before .before .before .before .before .before .before .before .before .before in
+    let b = c .before .before .before .before .before .before .before .before .before .before .before .before .before .before .before in
     let a = b .args in
-    let f = symbols-front (c .before .before .before .before .before) in
+    let f = symbols-front (c .before .before .before .before .before .before) in
     let small = front-below _ _ _ f (messages-below (a .lengths .now) (a .letters .now)) in
     (λ i. omega (arith, small i), omega (arith, f .count, room (order-of b) _ _ (b .pre .1 .1) .0))
 
 array-share-prefix-verdicts : tie.Need-array-share-prefix-verdicts
-array-share-prefix-verdicts c = verdicts-front (c .before .before .before .before .before .before .before .before) _ .inside
+array-share-prefix-verdicts c = verdicts-front (c .before .before .before .before .before .before .before .before .before) _ .inside
 
 slice-aggregate-marks-of : tie.Need-slice-aggregate-marks-of
-slice-aggregate-marks-of c = sym (verdicts-front (c .before .before .before .before .before .before .before .before .before) _ .count)
+slice-aggregate-marks-of c = sym (verdicts-front (c .before .before .before .before .before .before .before .before .before .before) _ .count)
 
 array-borrow-prefix-marks : tie.Need-array-borrow-prefix-marks
-array-borrow-prefix-marks c = omega (arith, ordered (c .before .before .before .before .before .before .before .before .before .before .before .before .before .before .before .before .before) .most-segments)
+array-borrow-prefix-marks c = omega (arith, ordered (c .before .before .before .before .before .before .before .before .before .before .before .before .before .before .before .before .before .before .before) .most-segments)
 
 slice-aggregate-marks-of-2 : tie.Need-slice-aggregate-marks-of-2
-slice-aggregate-marks-of-2 c = sym (entries (c .before .before .before .before .before .before .before .before .before .before .before .before .before .before .before .before .before .before))
+slice-aggregate-marks-of-2 c = sym (entries (c .before .before .before .before .before .before .before .before .before .before .before .before .before .before .before .before .before .before .before .before))
 
 marks-of-requires : tie.Need-marks-of-requires
-marks-of-requires c κs = entries (c .before .before .before .before .before .before .before .before .before .before .before .before .before .before .before .before .before .before) ∙ sym (verdicts-front (c .before .before .before .before .before .before .before .before .before .before) _ .count)
+marks-of-requires c κs = entries (c .before .before .before .before .before .before .before .before .before .before .before .before .before .before .before .before .before .before .before .before) ∙ sym (verdicts-front (c .before .before .before .before .before .before .before .before .before .before .before) _ .count)
 
 array-share-prefix-marks : tie.Need-array-share-prefix-marks
 array-share-prefix-marks c = omega (arith, marks-front (c .before) .inside)
@@ -112,7 +110,7 @@ slice-aggregate-pack-sheet c = omega (arith, marks-front (c .before .before) .co
 
 pack-sheet-requires : tie.Need-pack-sheet-requires
 pack-sheet-requires c κs =
-    let b = c .before .before .before .before .before .before .before .before .before .before .before .before .before .before .before .before .before .before .before .before .before .before in
+    let b = c .before .before .before .before .before .before .before .before .before .before .before .before .before .before .before .before .before .before .before .before .before .before .before .before in
     let a = b .args in
     let f = marks-front (c .before .before .before) in
     let small = front-below _ _ _ f (marks-below (outcomes (a .lengths .now) (a .letters .now))) in
@@ -125,12 +123,12 @@ slice-aggregate-counts-of : tie.Need-slice-aggregate-counts-of
 slice-aggregate-counts-of c = simp length-take (omega (arith, marks-front (c .before .before .before .before .before .before .before) .inside))
 
 counts-of-requires : tie.Need-counts-of-requires
-counts-of-requires c κs = simp length-take (omega (arith, ordered (c .before .before .before .before .before .before .before .before .before .before .before .before .before .before .before .before .before .before .before .before .before .before .before .before .before .before) .most-segments))
+counts-of-requires c κs = simp length-take (omega (arith, ordered (c .before .before .before .before .before .before .before .before .before .before .before .before .before .before .before .before .before .before .before .before .before .before .before .before .before .before .before .before) .most-segments))
 
 returns : tie.Need-returns
 returns c =
-    let a = c .before .before .before .before .before .before .before .before .before .before .before .before .before .before .before .before .before .before .before .before .before .before .before .before .before .before .before .args in
-    let symbols = symbols-front (c .before .before .before .before .before .before .before .before .before .before .before .before .before .before .before .before .before .before .before) .entries in
+    let a = c .before .before .before .before .before .before .before .before .before .before .before .before .before .before .before .before .before .before .before .before .before .before .before .before .before .before .before .before .before .args in
+    let symbols = symbols-front (c .before .before .before .before .before .before .before .before .before .before .before .before .before .before .before .before .before .before .before .before) .entries in
     let marks = marks-front (c .before .before .before .before .before .before .before .before) .entries in
     let counts = c .counts-of .ensures ∙ ap countsOf marks in
     let message = over-front bytes (λ (n : ℕ). n / 4) length-bytes _ _ (a .message .now) _ symbols (c .before .before .before .before .before .before .before .before .before .before .before .before .before .pack .ensures) in
@@ -142,14 +140,14 @@ read-letters-spec =
     tie.close
     (tie.spec
     (λ c. search needs)
-    array-borrow-prefix-symbols
+    (λ c. search needs)
     slice-aggregate-read-layout
     array-borrow-prefix-verdicts
     slice-aggregate-read-layout-2
     array-borrow-prefix-ends
     slice-aggregate-read-layout-3
     read-layout-requires
-    array-share-prefix-symbols
+    slice-reshare-prefix-pack
     slice-aggregate-pack
     pack-requires
     array-share-prefix-verdicts
@@ -163,6 +161,7 @@ read-letters-spec =
     array-share-prefix-marks-2
     slice-aggregate-counts-of
     counts-of-requires
+    (λ c. search needs)
     (λ c. search needs)
     (λ c. search needs)
     returns)

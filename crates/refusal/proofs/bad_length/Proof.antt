@@ -9,10 +9,10 @@ use Rattle.refusal.proofs.bad_length.Statement.{statement}
 use Rattle.refusal.proofs.bad_length.Tie as tie
 
 abbrev Inv-loop : tie.InvT-loop
-Inv-loop lengths bad₀ i₀ bad i = (i ≤ length lengths) × ((bad || badLength (drop i lengths)) ≡ badLength lengths)
+Inv-loop lengths most bad₀ i₀ bad i = (i ≤ length lengths) × ((bad || badLength most (drop i lengths)) ≡ badLength most lengths)
 
 abbrev μ-loop : tie.MeasureT-loop
-μ-loop lengths bad₀ i₀ bad i = length lengths - i
+μ-loop lengths most bad₀ i₀ bad i = length lengths - i
 
 pub bad-length-spec : {M : Type 1} → statement M
 bad-length-spec =
@@ -29,8 +29,9 @@ bad-length-spec =
     (λ c. omega arith)
     (λ c.
     let l = c .before .before .before .before .loop in
-    let ks = c .before .before .before .before .before .before .args .lengths .now in
-    (omega arith, rw (c .either .ensures, c .before .is-outside .ensures) (bad-turn ks (l .i) (l .bad) (c .before .before .before .loop-test .taken) ∙ l .inv .1)))
+    let a = c .before .before .before .before .before .before .args in
+    (omega arith, rw (c .either .ensures, c .before .is-outside .ensures) (bad-turn (a .lengths .now) (l .i) (a .most) (l .bad) (c .before .before .before .loop-test .taken) ∙ l .inv .1)))
     (λ c.
     let l = c .before .loop in
-    sym (sym (l .inv .1) ∙ bad-end (c .before .before .before .args .lengths .now) (l .i) (l .bad) (omega arith))))
+    let a = c .before .before .before .args in
+    sym (sym (l .inv .1) ∙ bad-end (a .lengths .now) (l .i) (a .most) (l .bad) (omega arith))))
