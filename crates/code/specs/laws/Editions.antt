@@ -8,10 +8,10 @@ use Prim.Native.Nat.{ℕ, _+_, _*_, _≤_}
 use native.Mathlib.Omega.{arith}
 use borrow.Author.Tests.{le-ltb, eq-eqb, ne-eqb, eqb-true}
 use lib.Dec.{eqb, ltb}
-use lib.ListN.{length, take, drop, length-take}
+use lib.ListN.{length, take, drop}
 use lib.Seq.{length-take-le}
 use Rattle.code.specs.declared.Refusal.{Refusal}
-use Rattle.code.specs.declared.Refusal.the-variants.{ShortBuffer, Label, TooLarge}
+use Rattle.code.specs.declared.Refusal.the-variants.{ShortBuffer, TooLarge}
 use Rattle.code.specs.declared.Checked.{Checked}
 use Rattle.code.specs.declared.Checked.the-variants.{Fine, Refused}
 use Rattle.code.specs.declared.Wrote.{Wrote}
@@ -19,10 +19,10 @@ use Rattle.code.specs.declared.Wrote.the-variants as W
 use Rattle.code.specs.Limits.{mostLength, mostBytes, mostSegments, oldLength, oldBytes}
 use Rattle.code.specs.Symbols.{Below}
 use Rattle.code.specs.Order.{Order, order, testWithin, orderTest, Taken}
-use Rattle.code.specs.laws.Order.{Within, Ordered, fine-within, order-fine, within-more}
+use Rattle.code.specs.laws.Order.{fine-within, order-fine, within-more}
 use Rattle.code.specs.Refusals.{refuse, unlessRefused}
 use Rattle.code.specs.Buffers.{overFront}
-use Rattle.code.specs.Label.{inBits, bytesFor, inBytes, lengthBits, listing, tooLarge, oldBits, labelBytes, equal, editionOf, lists, bytesIn, countIn, lengthsAt, lengthsIn, orderOf, needed, labelReadTest, labelled, labelRead}
+use Rattle.code.specs.Label.{inBits, bytesFor, inBytes, lengthBits, listing, tooLarge, oldBits, labelBytes, equal, editionOf, lists, bytesIn, countIn, lengthsAt, lengthsIn, orderOf, needed, labelReadTest, labelRead}
 use Rattle.code.specs.laws.Label.{not-large, within-old, edition-ordered, reads-old, reads-third, listing-most, old-most, oldestFor, label-reads, label-order, Good, label-good, old-fine, label-back, third-back}
 use Rattle.code.specs.laws.Bits.{length-fromBits}
 use Rattle.code.specs.OldLabel.{oldRead}

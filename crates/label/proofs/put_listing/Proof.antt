@@ -1,11 +1,10 @@
-use mathlib.Core.Path.{_≡_, sym, ap, _∙_}
+use mathlib.Core.Path.{sym, ap, _∙_}
 use Prim.Native.Nat.{_≤_}
 use native.Mathlib.Omega.{arith}
 use borrow.Author.Needs.{needs}
 use lib.ListN.{length}
 use Rattle.code.specs.Layers.{Word}
-use Rattle.code.specs.Order.{Order, order}
-use Rattle.code.specs.Label.{inBits, bytesBits, lengthBits, listing}
+use Rattle.code.specs.Order.{order}
 use Rattle.code.specs.laws.Label.{widths, fits-in}
 use Rattle.label.specs.PutBits.{putCall}
 use Rattle.label.proofs.Calls.{Firsts, firsts, listing-bits}
