@@ -14,6 +14,8 @@ pub mod Writing
 pub mod Bits
 pub mod LabelFields
 pub mod Label
+pub mod LabelWritten
+pub mod LabelTaken
 pub mod Editions
 pub mod Tallies
 pub mod Edits

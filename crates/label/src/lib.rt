@@ -1,8 +1,9 @@
 // The label calls: an order in bits, the most significant first, in three editions.
 mod bit_fields;
+mod editions;
 
 ghost use mathlib.Core.Path.{_≡_};
-ghost use mathlib.Core.Bool.{true, false, _&&_};
+ghost use mathlib.Core.Bool.{true, false};
 ghost use mathlib.Core.List.{[], _++_};
 ghost use Prim.Native.Nat.{_+_, _-_, _*_, _/_, _≤_, _<_, min};
 ghost use lib.Dec.{eqb, ltb};
@@ -21,61 +22,13 @@ use code::Checked;
 use code::Labelled;
 use code::Refusal;
 use code::Wrote;
-use refusal::limits::MOST_SEGMENTS;
-use refusal::limits::OLD_BYTES;
-use refusal::limits::OLD_LENGTH;
-
-// There are 1 to 64 lengths, all equal.
-fn equal(lengths: &[u16]) -> bool
-    ensures { λ r. ⌜ r ≡ L.equal (now (lengths .entry)) ⌝ }
-{
-    if refusal::outside(1, MOST_SEGMENTS, lengths.len()) {
-        return false;
-    }
-    let k = lengths[0];
-    let mut i = 0;
-    while i < lengths.len() {
-        if lengths[i] != k {
-            return false;
-        }
-        i += 1;
-    }
-    true
-}
-
-// The old editions, 1 and 2, do not carry an order.
-fn too_large(lengths: &[u16], b: u32) -> bool
-    ensures { λ r. ⌜ r ≡ L.tooLarge (order (now (lengths .entry)) b) ⌝ }
-{
-    refusal::bad_length(lengths, OLD_LENGTH) || OLD_BYTES < b as usize
-}
-
-// How many bits B has in an edition.
-fn bytes_bits(edition: u32) -> usize
-    ensures { λ r. ⌜ r ≡ L.bytesBits edition ⌝ }
-{
-    if edition == 3 {
-        return 10;
-    }
-    8
-}
-
-// How many bits a length has in an edition.
-fn length_bits(edition: u32) -> usize
-    ensures { λ r. ⌜ r ≡ L.lengthBits edition ⌝ }
-{
-    if edition == 3 {
-        return 9;
-    }
-    7
-}
-
-// Whether an edition lists its lengths.
-fn lists(edition: u32) -> bool
-    ensures { λ r. ⌜ r ≡ L.lists edition ⌝ }
-{
-    edition == 2 || edition == 3
-}
+use editions::bytes_bits;
+use editions::equal;
+use editions::is_misplaced;
+use editions::length_bits;
+use editions::lists;
+use editions::test_in;
+use editions::too_large;
 
 // Writes an order in an edition that lists its lengths, 2 or 3.
 fn put_listing(edition: u32, lengths: &[u16], b: u32, out: &mut [u8]) -> Wrote
@@ -182,16 +135,6 @@ fn filled(lengths: &[u16]) -> [u16; 64]
     a
 }
 
-// The tests 1, 2 and 3 of an order in a label of an edition.
-fn test_in(edition: u32, lengths: &[u16], b: u32) -> Checked
-    ensures { λ r. ⌜ r ≡ testIn edition (order (now (lengths .entry)) b) ⌝ }
-{
-    if edition == 3 {
-        return refusal::order_test(lengths, b, false);
-    }
-    refusal::test_within(OLD_LENGTH, OLD_BYTES, lengths, b, false)
-}
-
 // The answer to a label of an edition that carries these lengths and B.
 fn answer(edition: u32, lengths: &[u16], b: u32) -> Labelled
     ensures { λ r. do let o = order (now (lengths .entry)) b in ⌜ r ≡ answerTo (testIn edition o) o ⌝ }
@@ -253,13 +196,6 @@ fn listed(bytes: &[u8], at: usize, width: usize, n: usize) -> [u16; 127]
         i += 1;
     }
     a
-}
-
-// Whether an edition lists lengths that it must not: edition 2 equal ones, which have edition 1.
-fn is_misplaced(edition: u32, lengths: &[u16]) -> bool
-    ensures { λ r. ⌜ r ≡ (eqb edition 2 && L.equal (now (lengths .entry))) ⌝ }
-{
-    edition == 2 && equal(lengths)
 }
 
 // The answer to a label of an edition that lists its lengths, 2 or 3, and has the bytes that it needs.

@@ -23,7 +23,9 @@ use Rattle.code.specs.laws.Order.{fine-within, order-fine, within-more}
 use Rattle.code.specs.Refusals.{refuse, unlessRefused}
 use Rattle.code.specs.Buffers.{overFront}
 use Rattle.code.specs.Label.{inBits, bytesFor, inBytes, lengthBits, listing, tooLarge, oldBits, labelBytes, equal, editionOf, lists, bytesIn, countIn, lengthsAt, lengthsIn, orderOf, needed, labelReadTest, labelRead}
-use Rattle.code.specs.laws.Label.{not-large, within-old, edition-ordered, reads-old, reads-third, listing-most, old-most, oldestFor, label-reads, label-order, Good, label-good, old-fine, label-back, third-back}
+use Rattle.code.specs.laws.Label.{not-large, within-old, edition-ordered}
+use Rattle.code.specs.laws.LabelWritten.{reads-old, reads-third, listing-most, old-most, oldestFor, label-reads, label-order}
+use Rattle.code.specs.laws.LabelTaken.{Good, label-good, old-fine, label-back, third-back}
 use Rattle.code.specs.laws.Bits.{length-fromBits}
 use Rattle.code.specs.OldLabel.{oldRead}
 use Rattle.code.specs.Conversion.{converted, convertTest, convertCall}

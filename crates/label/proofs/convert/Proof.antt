@@ -10,7 +10,8 @@ use Rattle.code.specs.Limits.{mostLength, mostBytes, oldLength, oldBytes}
 use Rattle.code.specs.Order.{Order, testWithin}
 use Rattle.code.specs.laws.Order.{within-fine}
 use Rattle.code.specs.Label.{listing, tooLarge, oldBits, editionOf, orderOf, testIn, labelReadTest, orderIn}
-use Rattle.code.specs.laws.Label.{within-old, needed-least, edition-ordered, label-good, label-inside}
+use Rattle.code.specs.laws.Label.{within-old, needed-least, edition-ordered, label-inside}
+use Rattle.code.specs.laws.LabelTaken.{label-good}
 use Rattle.label.specs.PutBits.{putCall}
 use Rattle.label.proofs.Calls.{answer-test, answer-order, convert-refused, convert-old, convert-large, convert-third}
 use Rattle.label.proofs.convert.Statement.{statement}

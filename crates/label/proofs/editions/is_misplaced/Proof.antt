@@ -1,7 +1,7 @@
 use borrow.Author.Needs.{needs}
 use borrow.Author.Tests.{eq-eqb, ne-eqb}
-use Rattle.label.proofs.is_misplaced.Statement.{statement}
-use Rattle.label.proofs.is_misplaced.Tie as tie
+use Rattle.label.proofs.editions.is_misplaced.Statement.{statement}
+use Rattle.label.proofs.editions.is_misplaced.Tie as tie
 
 returns : tie.Need-returns
 returns c = rw (eq-eqb (c .before .before .before .args .edition) 2 (c .before .if1 .taken)) (c .equal .ensures)

@@ -5,8 +5,8 @@ use lib.ListN.{length, drop, getD}
 use Rattle.code.specs.Label.{allAre}
 use Rattle.code.specs.laws.Refusals.{outside-not}
 use Rattle.label.proofs.SameLengths.{equal-outside, equal-inside, all-same, all-other, all-end}
-use Rattle.label.proofs.equal.Statement.{statement}
-use Rattle.label.proofs.equal.Tie as tie
+use Rattle.label.proofs.editions.equal.Statement.{statement}
+use Rattle.label.proofs.editions.equal.Tie as tie
 
 abbrev Inv-loop : tie.InvT-loop
 Inv-loop lengths k i₀ i = (i ≤ length lengths) × (allAre k lengths ≡ allAre k (drop i lengths))

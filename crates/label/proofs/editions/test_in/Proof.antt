@@ -1,7 +1,7 @@
 use borrow.Author.Needs.{needs}
 use borrow.Author.Tests.{eq-eqb, ne-eqb}
-use Rattle.label.proofs.test_in.Statement.{statement}
-use Rattle.label.proofs.test_in.Tie as tie
+use Rattle.label.proofs.editions.test_in.Statement.{statement}
+use Rattle.label.proofs.editions.test_in.Tie as tie
 
 returns : tie.Need-returns
 returns c = rw (eq-eqb (c .before .before .before .args .edition) 3 (c .before .if1 .taken)) (c .order-test .ensures)

@@ -3,8 +3,8 @@ use mathlib.Core.Bool.{true, false}
 use borrow.Author.Needs.{needs}
 use Rattle.code.specs.Limits.{oldLength}
 use Rattle.code.specs.Order.{badLength}
-use Rattle.label.proofs.too_large.Statement.{statement}
-use Rattle.label.proofs.too_large.Tie as tie
+use Rattle.label.proofs.editions.too_large.Statement.{statement}
+use Rattle.label.proofs.editions.too_large.Tie as tie
 
 returns : tie.Need-returns
 returns c =
