@@ -1,5 +1,5 @@
 /*
- * DNA-LM strands: letters, writing, reading, the pieces of segments, reports, labels and tallies.
+ * DNA-LM strands: letters, writing, reading, the pieces of segments, reports, labels, quotes and tallies.
  *
  * A message of B bytes is 4B symbols. It is written in the letters A, T, C and G, as l segments.
  * A layout lists their lengths, the symbols of the message in each segment from the first to the last:
@@ -48,6 +48,7 @@ enum {
     DNALM_MOST_SHEET = 16,      /* bytes of a sheet */
     DNALM_MOST_LABEL = 75,      /* bytes of a label that is written, also of a converted one */
     DNALM_MOST_REPORT = 960,    /* bytes of a report: 64 lines of at most 15 */
+    DNALM_MOST_STARTS = 32319,  /* starts that the scans of one reading try */
     DNALM_MOST_OLD_LENGTH = 64, /* each length in a label of the old editions, 1 and 2 */
     DNALM_MOST_OLD_BYTES = 128  /* B in a label of the old editions */
 };
@@ -132,6 +133,14 @@ typedef struct dnalm_order {
     size_t count;
     uint16_t lengths[DNALM_MOST_SEGMENTS];  /* zeros behind the first count */
 } dnalm_order;
+
+/* What strands of one order take. */
+typedef struct dnalm_quoted {
+    uint32_t refusal;
+    uint32_t letters;           /* to order, for all strands together */
+    uint32_t sheet_bytes;       /* of their sheets, for all strands together */
+    uint32_t starts;            /* the most that the scans of one reading try */
+} dnalm_quoted;
 
 /* How many strands were read, and their segments by mark. */
 typedef struct dnalm_tally {
@@ -271,6 +280,18 @@ dnalm_order dnalm_read_label(const uint8_t *bytes, size_t bytes_length);
  */
 dnalm_written dnalm_convert_label(const uint8_t *label, size_t label_length,
                                   uint8_t *out, size_t out_length);
+
+/*
+ * Answers what strands of these lengths and B = b take, without making them: their letters, which are the
+ * letters that dnalm_write writes for any message, and the bytes of their sheets, (l + 3) / 4 for each strand.
+ * starts is how often the scans of one reading, those that dnalm_read makes behind lost segments, look for a
+ * clean segment at a start: at most, whatever letters are received, and exactly so often for no letters. A start
+ * counts past the strand's end too, and anew for each segment that is sought there. It is
+ * 8 * l * (l - 1) + (l - 1), and one less if l is above 1 and the first length is 2. strands does not change it.
+ *
+ * Refused, in this order: 1, 2, 3. It writes to nothing.
+ */
+dnalm_quoted dnalm_quote(const uint16_t *lengths, size_t lengths_count, uint32_t b, uint16_t strands);
 
 /*
  * Adds one strand and the three counts of its reading to a tally. All four counts change, or none.

@@ -1,4 +1,4 @@
-/* What the header says of sizes, empty buffers, labels, letters, reports and refused calls, held against the library. It is C99 and C++ alike. */
+/* What the header says of sizes, empty buffers, labels, letters, reports, quotes and refusals, held against the library. It is C99 and C++ alike. */
 #include "dnalm.h"
 #include <stdio.h>
 #include <stdlib.h>
@@ -40,7 +40,34 @@ static void converted(const uint8_t *label, size_t length, size_t other_length)
     EXPECT(w.refusal == DNALM_TAKEN && w.place == 0 && w.length == length && memcmp(back, label, length) == 0);
 }
 
-/* A layout that is taken: strand and label are written in the sizes told, and read back; the label is converted. Answers the letters. */
+static void expect_quoted(dnalm_quoted q, uint32_t letters, uint32_t sheet_bytes, uint32_t starts)
+{
+    EXPECT(q.refusal == DNALM_TAKEN && q.letters == letters && q.sheet_bytes == sheet_bytes && q.starts == starts);
+}
+
+/* A quote that is refused by this number, whatever the strands; the other numbers are 0. */
+static void not_quoted(const uint16_t *lengths, size_t count, uint32_t b, uint32_t refusal)
+{
+    for (uint32_t strands = 0; strands <= 65535; strands += 65535) {
+        dnalm_quoted q = dnalm_quote(lengths, count, b, (uint16_t)strands);
+        EXPECT(q.refusal == refusal && q.letters == 0 && q.sheet_bytes == 0 && q.starts == 0);
+    }
+}
+
+/* Quotes of an order with so many letters; 16m + 1 starts for the m-th segment behind a lost one, one fewer where the first length is 2. */
+static void quoted(const uint16_t *lengths, size_t count, uint32_t b, uint32_t letters)
+{
+    uint32_t sheet_bytes = (uint32_t)(count + 3) / 4;
+    uint32_t starts = 0;
+    for (uint32_t m = 1; m < count; m++) {
+        starts += 16 * m + (m > 1 || lengths[0] > 2);
+    }
+    expect_quoted(dnalm_quote(lengths, count, b, 0), 0, 0, starts);
+    expect_quoted(dnalm_quote(lengths, count, b, 1), letters, sheet_bytes, starts);
+    expect_quoted(dnalm_quote(lengths, count, b, 65535), 65535 * letters, 65535 * sheet_bytes, starts);
+}
+
+/* A layout that is taken: strand and label are written in the sizes told, and read back; label converted, order quoted. Answers the letters. */
 static size_t taken(const uint16_t *lengths, size_t count, uint32_t b)
 {
     uint8_t bytes[DNALM_MOST_BYTES];
@@ -80,6 +107,7 @@ static size_t taken(const uint16_t *lengths, size_t count, uint32_t b)
     EXPECT(dnalm_write_label(lengths, count, b, label, l.length - 1).refusal == DNALM_SHORT_BUFFER);
     EXPECT(dnalm_read_label(label, l.length - 1).refusal == DNALM_SHORT_BUFFER);
     converted(label, l.length, old ? (28 + 9 * count) / 8 : 0);
+    quoted(lengths, count, b, (uint32_t)w.length);
     return w.length;
 }
 
@@ -113,6 +141,7 @@ static void sizes(void)
                 continue;
             }
             EXPECT(w.place == 0 && w.length == 0 && l.place == 0 && l.length == 0);
+            not_quoted(lengths, count, b, l.refusal);
         }
     }
     EXPECT(most == 2818);
@@ -136,6 +165,9 @@ static void mixed(void)
     fill(lengths + 60, 5, 17);
     EXPECT(taken(lengths, 64, 512) == DNALM_MOST_WRITTEN);
     EXPECT(dnalm_write_label(lengths, 64, 512, out, sizeof out).length == DNALM_MOST_LABEL);
+    expect_quoted(dnalm_quote(lengths, 64, 512, 2), 2 * DNALM_MOST_WRITTEN, 2 * DNALM_MOST_SHEET, DNALM_MOST_STARTS);
+    not_quoted(lengths, 63, 512, DNALM_CUT);
+    not_quoted(lengths, 65, 512, DNALM_CUT);
     memset(bytes, 0x1B, sizeof bytes);
     EXPECT(dnalm_write(lengths, 63, 512, bytes, 512, out, sizeof out).refusal == DNALM_CUT);
     EXPECT(dnalm_write(lengths, 65, 512, bytes, 512, out, sizeof out).refusal == DNALM_CUT);
@@ -143,6 +175,8 @@ static void mixed(void)
     EXPECT(dnalm_write(lengths, 65, 512, bytes, 512, out, sizeof out).refusal == DNALM_SEGMENT_LENGTH);
     EXPECT(dnalm_write(lengths, 65, 0, NULL, 0, NULL, 0).refusal == DNALM_SEGMENT_LENGTH);
     EXPECT(dnalm_write(lengths, 64, 0, NULL, 0, NULL, 0).refusal == DNALM_MESSAGE_SIZE);
+    not_quoted(lengths, 65, 0, DNALM_SEGMENT_LENGTH);
+    not_quoted(lengths, 64, 0, DNALM_MESSAGE_SIZE);
 }
 
 /* An empty buffer, or a layout of no lengths, may be NULL. */
@@ -179,6 +213,8 @@ static void empty(void)
     EXPECT(dnalm_report(NULL, 0, 1, NULL, 0, NULL, 0).refusal == DNALM_CUT);
     EXPECT(dnalm_verdict(NULL, 0, 1, NULL, 0, 0).refusal == DNALM_CUT);
     EXPECT(dnalm_write_label(NULL, 0, 1, NULL, 0).refusal == DNALM_CUT);
+    not_quoted(NULL, 0, 1, DNALM_CUT);
+    not_quoted(NULL, 0, 0, DNALM_MESSAGE_SIZE);
 }
 
 /* A label of so many bytes is not converted by this number, whatever the buffer, which stays as it was. */

@@ -49,6 +49,15 @@ pub struct Order {
 
 #[repr(C)]
 #[derive(Clone, Copy, Debug, PartialEq, Eq)]
+pub struct Quoted {
+    pub refusal: u32,
+    pub letters: u32,
+    pub sheet_bytes: u32,
+    pub starts: u32,
+}
+
+#[repr(C)]
+#[derive(Clone, Copy, Debug, PartialEq, Eq)]
 pub struct Tally {
     pub strands: u32,
     pub clean: u32,
@@ -127,6 +136,7 @@ extern "C" {
         out: *mut u8,
         out_length: usize,
     ) -> Written;
+    pub fn dnalm_quote(lengths: *const u16, lengths_count: usize, b: u32, strands: u16) -> Quoted;
     pub fn dnalm_add_to_tally(t: Tally, clean: u32, corrected: u32, lost: u32) -> Tallied;
 }
 
@@ -228,4 +238,8 @@ pub fn read_label(bytes: &[u8]) -> Order {
 
 pub fn convert_label(label: &[u8], out: &mut [u8]) -> Written {
     unsafe { dnalm_convert_label(label.as_ptr(), label.len(), out.as_mut_ptr(), out.len()) }
+}
+
+pub fn quote(lengths: &[u16], b: u32, strands: u16) -> Quoted {
+    unsafe { dnalm_quote(lengths.as_ptr(), lengths.len(), b, strands) }
 }

@@ -10,6 +10,7 @@ mod oracle;
 #[allow(dead_code)]
 mod program;
 mod programs;
+mod quotes;
 mod strands;
 mod truth;
 mod verdicts;
@@ -253,6 +254,7 @@ impl Met {
             "write label",
             "read label",
             "convert label",
+            "quote",
             "tally",
         ] {
             names.push(format!("{call} taken"));
@@ -286,6 +288,17 @@ impl Met {
             "none found of several",
         ];
         names.extend(scans.map(String::from));
+        let quotes = [
+            "no strands quoted",
+            "most strands quoted",
+            "first length 2 of several",
+            "most starts quoted",
+            "starts tried",
+            "several scans in one reading",
+            "starts tried past the end",
+            "all starts tried by a strand with letters",
+        ];
+        names.extend(quotes.map(String::from));
         let layouts = [
             "equal lengths",
             "mixed lengths",
@@ -1127,6 +1140,8 @@ impl Run {
         self.check_write(&lengths, b, &message, out_room);
         self.check_write_label(&lengths, b, label_room);
         self.labels(&lengths, b);
+        let starts = self.quotes(&lengths, b);
+        self.check_starts(&received, false, starts);
     }
 
     fn one_case(&mut self, pairs: &[(u32, u32)]) {
@@ -1179,7 +1194,8 @@ impl Run {
         if got.refusal == 0 {
             self.count_unknown(&lengths, &strand, &letters, got.lost);
         }
-        if taken && self.keeps_conditions(&lengths, &strand, &letters) {
+        let kept = taken && self.keeps_conditions(&lengths, &strand, &letters);
+        if kept {
             self.demand(&lengths, &message, &letters, got, &read, &marks);
         }
         if taken {
@@ -1196,6 +1212,8 @@ impl Run {
         }
         self.labels(&lengths, b);
         self.tallies([got.clean, got.corrected, got.lost]);
+        let starts = self.quotes(&lengths, b);
+        self.check_starts(&received, kept, starts);
     }
 
     /// The letters that come of a written strand.
@@ -1366,6 +1384,8 @@ struct Demand {
     lengths: Vec<u16>,
     message: Vec<u8>,
     segments: Vec<Vec<u8>>,
+    /// The starts that are quoted.
+    starts: usize,
     /// Strands read that keep the conditions.
     strands: u64,
     /// Those whose lines were compared.
@@ -1404,8 +1424,8 @@ impl Demand {
         got.lost
     }
 
-    /// Both readers tell the same lines, and verdicts by number.
-    fn check_lines(&self, letters: &[u8]) {
+    /// Both readers tell the same lines, and verdicts by number; no more starts are tried than are quoted, and none where it is claimed.
+    fn check_lines(&self, letters: &[u8], claimed: bool) {
         let (lengths, b) = (&self.lengths, self.message.len() as u32);
         let (_, lines) = library_report(lengths, b, letters);
         let segments = oracle::segments(lengths, b, letters).unwrap_or_default();
@@ -1414,9 +1434,12 @@ impl Demand {
         let said_same = (1..)
             .zip(&segments)
             .all(|(number, segment)| said(number) == verdicts::said_of(segment.verdict));
-        if lines != wanted.as_bytes() || !said_same {
+        let tried = oracle::starts_tried(&segments);
+        let most = if claimed { 0 } else { self.starts };
+        if lines != wanted.as_bytes() || !said_same || tried > most {
             println!(
-                "disagreement: demand 3 lengths {} letters {} oracle {wanted:?} library {}",
+                "disagreement: demand 3 lengths {} letters {} oracle {wanted:?} library {}, \
+                 {tried} starts tried of {most}",
                 u16::shown(lengths),
                 letters.escape_ascii(),
                 lines.escape_ascii()
@@ -1433,7 +1456,7 @@ impl Demand {
             // Another message has other edits told.
             let turn = self.strands + u64::from(self.message[0]);
             if turn.is_multiple_of(TOLD_ONCE_IN) {
-                self.check_lines(received);
+                self.check_lines(received, true);
                 self.told += 1;
             }
             return;
@@ -1473,7 +1496,7 @@ impl Demand {
     fn touched(&mut self, letters: &[u8]) {
         let kept = conditions::kept(&self.lengths, &self.segments.concat(), letters);
         let lost = self.check(letters, kept);
-        self.check_lines(letters);
+        self.check_lines(letters, kept);
         self.outside += u64::from(!kept);
         self.lost += u64::from(lost > 0);
     }
@@ -1500,6 +1523,7 @@ fn demand_of(lengths: &[u16], message: &[u8]) -> Demand {
         lengths: lengths.to_vec(),
         message: message.to_vec(),
         segments: strands::cut(lengths, &strand),
+        starts: ffi::quote(lengths, b, 1).starts as usize,
         strands: 0,
         told: 0,
         outside: 0,
@@ -1637,6 +1661,7 @@ fn samples() {
         sample(&name, library_read(lengths, b, b"ATCG").0.refusal, number);
         let label = ffi::write_label(lengths, b, &mut [0; MOST_LABEL]);
         sample(&name, label.refusal, number);
+        sample(&name, ffi::quote(lengths, b, 1).refusal, number);
     }
     let refusal = |letters: &[u8]| library_read(&[16; 8], 32, letters).0.refusal;
     sample("4,096", refusal(&[b'A'; 4096]), 0);
@@ -1649,6 +1674,9 @@ fn samples() {
     lines::told();
     lines::passed();
     lines::refused();
+    quotes::quoted();
+    quotes::refused();
+    quotes::tried();
     println!("samples hold");
 }
 

@@ -45,7 +45,7 @@ pub enum Verdict {
     NoStart,
 }
 
-/// One segment as read: its piece of the strand, the verdict and its k symbols.
+/// One segment as read: its piece of the strand, the verdict, its k symbols, and the starts that are tried behind it where it is lost.
 #[derive(Clone, Debug, PartialEq, Eq)]
 pub struct Segment {
     pub start: usize,
@@ -53,6 +53,7 @@ pub struct Segment {
     pub scanned: bool,
     pub verdict: Verdict,
     pub message: Vec<u8>,
+    pub tried: Vec<usize>,
 }
 
 /// The numbers of one segment: k, t and its length n.
@@ -77,6 +78,14 @@ pub struct Tally {
     pub clean: u32,
     pub corrected: u32,
     pub lost: u32,
+}
+
+/// What is told before strands are ordered: letters and sheet bytes of all of them, and the most starts that one reading tries.
+#[derive(Clone, Copy, Debug, PartialEq, Eq)]
+pub struct Quote {
+    pub letters: u32,
+    pub sheet_bytes: u32,
+    pub starts: u32,
 }
 
 /// The most that a length and B may be.
@@ -507,9 +516,10 @@ fn segment_at(
     Ok((message, end, verdict))
 }
 
-/// Step 10 after a loss at p: the start of the next clean segment and how many are passed before it.
+/// Step 10 after a loss at p: the starts tried in their order, and the start of the next clean segment with how many are passed before it.
 /// The first shape is that of the lost segment; each further one is sought behind all before it.
-fn scan(shapes: &[Shape], strand: &Strand, p: usize) -> Option<(usize, usize)> {
+fn scan(shapes: &[Shape], strand: &Strand, p: usize) -> (Vec<usize>, Option<(usize, usize)>) {
+    let mut tried = Vec::new();
     let mut centre = p;
     for (passed, pair) in shapes.windows(2).enumerate() {
         centre += pair[0].n;
@@ -519,15 +529,18 @@ fn scan(shapes: &[Shape], strand: &Strand, p: usize) -> Option<(usize, usize)> {
         }
         for d in moves {
             let start = centre.checked_add_signed(d).unwrap();
-            if start <= p || start > strand.len() {
+            if start <= p {
                 continue;
             }
-            if strand.clean_at(&pair[1], start, strand.symbols[start - 1]) {
-                return Some((start, passed));
+            tried.push(start);
+            // A start past the end has no symbol before it, and nothing stands there.
+            let before = strand.symbols.get(start - 1);
+            if before.is_some_and(|&f| strand.clean_at(&pair[1], start, f)) {
+                return (tried, Some((start, passed)));
             }
         }
     }
-    None
+    (tried, None)
 }
 
 /// All segments of a received strand.
@@ -547,13 +560,14 @@ fn all_segments(lay: &Layout, strand: &Strand) -> Vec<Segment> {
                     scanned,
                     verdict,
                     message,
+                    tried: Vec::new(),
                 });
                 p = end;
                 scanned = false;
             }
             Err(step) => {
                 let later = &lay.shapes[segments.len() + 1..];
-                let found = scan(&lay.shapes[segments.len()..], strand, p);
+                let (tried, found) = scan(&lay.shapes[segments.len()..], strand, p);
                 // Where nothing is found all later ones are passed, up to the strand's end.
                 let (start, passed) = found.unwrap_or((strand.len(), later.len()));
                 segments.push(Segment {
@@ -562,6 +576,7 @@ fn all_segments(lay: &Layout, strand: &Strand) -> Vec<Segment> {
                     scanned,
                     verdict: Verdict::Lost { step },
                     message: vec![0; shape.k],
+                    tried,
                 });
                 for shape in &later[..passed] {
                     segments.push(Segment {
@@ -570,6 +585,7 @@ fn all_segments(lay: &Layout, strand: &Strand) -> Vec<Segment> {
                         scanned: false,
                         verdict: Verdict::NoStart,
                         message: vec![0; shape.k],
+                        tried: Vec::new(),
                     });
                 }
                 p = start;
@@ -608,6 +624,23 @@ pub fn segments(lengths: &[u16], b: u32, letters: &[u8]) -> Result<Vec<Segment>,
     not_overlong(letters)?;
     let strand = strand_of(letters)?;
     Ok(all_segments(&lay, &strand))
+}
+
+/// How many starts a reading tries in all its scans.
+pub fn starts_tried(segments: &[Segment]) -> usize {
+    segments.iter().map(|segment| segment.tried.len()).sum()
+}
+
+/// Quotes so many strands; the starts are those of a reading of the empty strand, in which none stands.
+pub fn quote(lengths: &[u16], b: u32, strands: u16) -> Result<Quote, Refused> {
+    let lay = layout(lengths, b, None)?;
+    let empty = strand_of(&[])?;
+    let of_all = |each: usize| each as u32 * strands as u32;
+    Ok(Quote {
+        letters: of_all(lay.strand_length()),
+        sheet_bytes: of_all(lay.sheet_length()),
+        starts: starts_tried(&all_segments(&lay, &empty)) as u32,
+    })
 }
 
 /// The mark of a verdict in the sheet.
@@ -745,7 +778,7 @@ fn oldest(lengths: &[u16], b: u32) -> u32 {
 }
 
 /// The label of an order in an edition that can carry it.
-fn label(edition: u32, lengths: &[u16], b: u32) -> Vec<u8> {
+pub fn label(edition: u32, lengths: &[u16], b: u32) -> Vec<u8> {
     let mut bits = Vec::new();
     push_bits(&mut bits, edition, 4);
     if let Some((b_bits, k_bits)) = listed(edition) {

@@ -6,7 +6,9 @@ mod oracle;
 mod program;
 
 use oracle::Refused;
-use program::{converting, hex, label_of, printed, reading, reporting, two_lines, writing};
+use program::{
+    converting, hex, label_of, printed, quoting, reading, reporting, two_lines, writing,
+};
 use std::ffi::OsString;
 use std::io::{Read, Write};
 use std::os::unix::ffi::OsStringExt;
@@ -45,8 +47,8 @@ fn input() -> Vec<u8> {
 
 fn usage() -> ! {
     eprintln!(
-        "usage: print [-v | report | write | convert] LABEL [STRAND | MESSAGE] | \
-         print [-v | report | write | convert] -"
+        "usage: print [-v | report | write | convert | quote] LABEL [STRAND | MESSAGE | NUMBER] | \
+         print [-v | report | write | convert | quote] -"
     );
     exit(2);
 }
@@ -64,6 +66,7 @@ fn main() {
         [b"report", rest @ ..] => (reporting, rest),
         [b"write", rest @ ..] => (writing, rest),
         [b"convert", rest @ ..] => (|label, _| converting(label), rest),
+        [b"quote", rest @ ..] => (quoting, rest),
         rest => (reading, rest),
     };
     let lines;

@@ -7,6 +7,7 @@ use std::process::{Command, Stdio};
 pub const READER: &str = "target/bin/read_strand";
 pub const REPORTER: &str = "target/bin/report_strand";
 pub const CONVERTER: &str = "target/bin/convert_label";
+pub const QUOTER: &str = "target/bin/quote_strands";
 
 /// The first two lines of an input; a missing one is empty.
 pub fn two_lines(input: &[u8]) -> (&[u8], &[u8]) {
@@ -79,6 +80,27 @@ pub fn writing(label: &[u8], message: &[u8]) -> Result<String, Refused> {
     let mut strand = [0; 2874];
     let letters = oracle::write(&lengths, b, &message, &mut strand)?;
     Ok(format!("{}\n", strand[..letters].escape_ascii()))
+}
+
+/// The number in a line of one to five decimal digits alone, up to 65,535.
+fn number_of(line: &[u8]) -> Option<u16> {
+    if line.len() > 5 || !line.iter().all(u8::is_ascii_digit) {
+        return None;
+    }
+    std::str::from_utf8(line).ok()?.parse().ok()
+}
+
+/// The three lines of the quoting program.
+pub fn quoting(label: &[u8], strands: &[u8]) -> Result<String, Refused> {
+    let (lengths, b) = label_of(label)?;
+    let Some(strands) = number_of(strands) else {
+        return refuse(2);
+    };
+    let quote = oracle::quote(&lengths, b, strands)?;
+    Ok(format!(
+        "letters {}\nsheet bytes {}\nstarts {}\n",
+        quote.letters, quote.sheet_bytes, quote.starts
+    ))
 }
 
 /// What a program prints for its answer.

@@ -1,7 +1,7 @@
-//! Runs the programs that take a label and a strand, and the one that takes a label alone, on random inputs.
+//! Runs the programs that take a label and a strand, a label alone, and a label and a number of strands, on random inputs.
 
-use crate::oracle;
-use crate::program::{self, hex, CONVERTER, READER, REPORTER};
+use crate::oracle::{self, Refused};
+use crate::program::{self, hex, CONVERTER, QUOTER, READER, REPORTER};
 use crate::strands::{self, Rng};
 use std::process::exit;
 
@@ -98,6 +98,49 @@ fn label_input(rng: &mut Rng, pairs: &[(u32, u32)]) -> Vec<u8> {
     input
 }
 
+/// A line with a number of strands, or with a number that is none; zeros before it may go past all that is read.
+fn number_line(rng: &mut Rng) -> Vec<u8> {
+    let random = rng.next() as u16;
+    let number = rng.of(&[0, 1, u16::MAX, random]);
+    let mut line = number.to_string().into_bytes();
+    match rng.below(16) {
+        0..=2 => {
+            let zeros = rng.of(&[1, 1, 2, 3, 4, 5, 20, 500, 9000]);
+            line.splice(0..0, vec![b'0'; zeros]);
+        }
+        3..=4 => line = too_large(rng),
+        5 => line.clear(),
+        6 => line.insert(0, rng.of(b"+- \t0")),
+        7 => line.push(rng.of(b"\r\r \t.")),
+        8 => {
+            let place = rng.below(line.len());
+            line[place] = rng.of(b"/:aAfFxX,._ \0\xB2\xFF");
+        }
+        _ => {}
+    }
+    line
+}
+
+/// The digits of a number above 65,535, often one that is small again in fewer bits.
+fn too_large(rng: &mut Rng) -> Vec<u8> {
+    let more = rng.below(10) as u128;
+    let power = rng.of(&[16, 16, 17, 31, 32, 63, 64, 100]);
+    ((1 << power) + more).to_string().into_bytes()
+}
+
+/// A line with a label and one with a number of strands, or the first alone, and what may stand behind them.
+fn number_input(rng: &mut Rng, pairs: &[(u32, u32)]) -> Vec<u8> {
+    let (lengths, b) = strands::layout(rng, pairs);
+    let mut input = label_line(rng, &lengths, b);
+    if rng.once_in(20) {
+        return input;
+    }
+    input.push(b'\n');
+    input.extend(number_line(rng));
+    input.extend(rng.of(&BEHIND));
+    input
+}
+
 /// The number, as it is printed, that a program refuses by.
 fn refusal(printed: &str) -> Option<&str> {
     printed.strip_prefix("refused ")
@@ -124,10 +167,23 @@ impl Met {
     }
 }
 
+type Input = fn(&mut Rng, &[(u32, u32)]) -> Vec<u8>;
+type Answer = fn(&[u8], &[u8]) -> Result<String, Refused>;
+
 /// The programs print what the oracle does.
 pub fn agree(seed: u64, count: u64) {
     strands_agree(seed, count);
-    labels_agree(seed, count);
+    let converting: Answer = |label, _| program::converting(label);
+    let numbers = [1, 2, 3, 8, 13];
+    program_agrees((seed, count), CONVERTER, label_input, converting, &numbers);
+    let numbers = [1, 2, 3, 8];
+    program_agrees(
+        (seed, count),
+        QUOTER,
+        number_input,
+        program::quoting,
+        &numbers,
+    );
 }
 
 /// The reporting program prints what the oracle does, and refuses what the reading program refuses, by the same line.
@@ -153,25 +209,30 @@ fn strands_agree(seed: u64, count: u64) {
     met.tell(&what, &[1, 2, 3, 4, 6, 8]);
 }
 
-/// The converting program prints what the oracle does.
-fn labels_agree(seed: u64, count: u64) {
+/// A program prints what the oracle does for inputs of two lines, and refuses by each of the numbers.
+fn program_agrees(
+    (seed, count): (u64, u64),
+    program: &str,
+    input: Input,
+    answer: Answer,
+    numbers: &[usize],
+) {
     let pairs = strands::pairs();
     let mut met = Met([0; 14]);
     for case in 0..count {
-        let input = label_input(&mut Rng::new(seed, case), &pairs);
-        let converted = program::run(CONVERTER, &input);
-        let (label, _) = program::two_lines(&input);
-        let wanted = program::printed(program::converting(label));
-        if converted != wanted {
+        let input = input(&mut Rng::new(seed, case), &pairs);
+        let printed = program::run(program, &input);
+        let (first, second) = program::two_lines(&input);
+        let wanted = program::printed(answer(first, second));
+        if printed != wanted {
             println!(
                 "disagreement: seed {seed} case {case} input {} oracle {wanted:?} \
-                 program {converted:?}",
+                 {program} {printed:?}",
                 input.escape_ascii()
             );
             exit(1);
         }
-        met.add(&converted);
+        met.add(&printed);
     }
-    let what = format!("convert_label: seed {seed}, {count} inputs");
-    met.tell(&what, &[1, 2, 3, 8, 13]);
+    met.tell(&format!("{program}: seed {seed}, {count} inputs"), numbers);
 }

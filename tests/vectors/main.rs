@@ -13,7 +13,7 @@ mod program;
 mod verdicts;
 
 use oracle::{Refused, Verdict};
-use program::{hex, CONVERTER, READER, REPORTER};
+use program::{hex, CONVERTER, QUOTER, READER, REPORTER};
 use std::process::exit;
 
 /// Stands in lent buffers before a call.
@@ -93,6 +93,11 @@ enum Question {
         letters: Vec<u8>,
         segment: u32,
     },
+    Quote {
+        b: u32,
+        lengths: Vec<u16>,
+        strands: u16,
+    },
     Reading {
         input: Vec<u8>,
     },
@@ -136,6 +141,11 @@ fn question_of(text: &str) -> Option<Question> {
             lengths: fields.lengths()?,
             letters: fields.letters()?,
             segment: fields.number()?,
+        },
+        "quote" => Question::Quote {
+            b: fields.number()?,
+            lengths: fields.lengths()?,
+            strands: fields.number()?,
         },
         "prog" => Question::Reading {
             input: fields.letters()?,
@@ -236,6 +246,15 @@ fn by_oracle(question: &Question) -> Result<String, Refused> {
             let segments = oracle::segments(lengths, *b, letters);
             let (start, length) = oracle::piece(&segments, *segment)?;
             Ok(letters_text(&letters[start..start + length]))
+        }
+        Question::Quote {
+            b,
+            lengths,
+            strands,
+        } => {
+            let quote = oracle::quote(lengths, *b, *strands)?;
+            let (letters, sheet_bytes) = (quote.letters, quote.sheet_bytes);
+            Ok(format!("{letters} {sheet_bytes} {}", quote.starts))
         }
         Question::Reading { input } => {
             let (label, strand) = program::two_lines(input);
@@ -338,6 +357,19 @@ fn by_library(question: &Question) -> Result<String, String> {
             let piece = letters.get(got.start..got.start + got.length);
             Ok(letters_text(piece.ok_or("a piece outside the strand")?))
         }
+        Question::Quote {
+            b,
+            lengths,
+            strands,
+        } => {
+            let got = ffi::quote(lengths, *b, *strands);
+            let quote = format!("{} {} {}", got.letters, got.sheet_bytes, got.starts);
+            if got.refusal != 0 && quote != "0 0 0" {
+                return Err(format!("refused {} with {quote}", got.refusal));
+            }
+            taken(got.refusal, 0)?;
+            Ok(quote)
+        }
         Question::Reading { input } => Ok(program::run(READER, input)),
         Question::Reporting { input } => Ok(program::run(REPORTER, input)),
     }
@@ -397,6 +429,22 @@ fn program_holds(question: &str, label: &[u8], answer: &str) -> bool {
     same(CONVERTER, question, &format!("{wanted}\n"), &printed)
 }
 
+/// Whether the program prints the answer for a label of edition 3, if its fields hold these lengths and B.
+fn quoter_holds(question: &str, lengths: &[u16], b: u32, strands: u16, answer: &str) -> bool {
+    if b > 1023 || lengths.len() > 127 || lengths.iter().any(|&length| length > 511) {
+        return true;
+    }
+    let wanted = match answer.split(' ').collect::<Vec<&str>>()[..] {
+        [letters, sheet_bytes, starts] => {
+            format!("letters {letters}\nsheet bytes {sheet_bytes}\nstarts {starts}\n")
+        }
+        _ => format!("{answer}\n"),
+    };
+    let label = hex(&oracle::label(3, lengths, b));
+    let printed = program::run(QUOTER, format!("{label}\n{strands}\n").as_bytes());
+    same(QUOTER, question, &wanted, &printed)
+}
+
 /// Whether all sides give the answer of a line.
 fn line_holds(line: &str) -> bool {
     let Some((question, answer)) = line.split_once('\t') else {
@@ -424,6 +472,15 @@ fn line_holds(line: &str) -> bool {
             same("oracle", question, answer, &oracle)
                 & same("library", question, answer, &library)
                 & program_holds(question, label, answer)
+        }
+        Question::Quote {
+            b,
+            lengths,
+            strands,
+        } => {
+            same("oracle", question, answer, &oracle)
+                & same("library", question, answer, &library)
+                & quoter_holds(question, lengths, *b, *strands, answer)
         }
         _ => {
             same("oracle", question, answer, &oracle) & same("library", question, answer, &library)

@@ -24,8 +24,10 @@ pub mod Sheet
 pub mod Conditions
 pub mod Demand3
 pub mod LaterSegments
+pub mod Starts
 pub mod ReadCall
 pub mod ReadDemand
+pub mod Quote
 pub mod Ascii
 pub mod Samples
 pub mod Runs

@@ -43,9 +43,13 @@ pub mod Regained
 pub mod Demand3
 pub mod LostSegments
 pub mod LaterSegments
+pub mod Windows
+pub mod TriedStarts
+pub mod Starts
 pub mod MessageLengths
 pub mod MessageBelow
 pub mod LostSteps
 pub mod Verdicts
 pub mod ReadCall
 pub mod ReadDemand
+pub mod Quote

@@ -86,6 +86,20 @@ pub enum Tallied {
     Refused(Refusal),
 }
 
+// What strands of one order take: letters to order and bytes of sheets, both for all of them together; and the most starts that the scans of
+// one reading try.
+pub struct Quote {
+    pub letters: u32,
+    pub bytes: u32,
+    pub starts: u32,
+}
+
+// What a quote answers.
+pub enum Quoted {
+    Numbers(Quote),
+    Refused(Refusal),
+}
+
 // How a piece differs from the segment written anew, with its place and symbol.
 pub enum Edit {
     None,

@@ -14,7 +14,8 @@ use lib.Seq.{take-at}
 use Rattle.code.specs.Label.{needed}
 use Rattle.code.specs.laws.Label.{needed-most}
 use Rattle.text.specs.declared.hex.Hex.the-variants.{Bytes, Bad}
-use Rattle.text.specs.Hex.{allDigits, hexBytes, decodeCall}
+use Rattle.text.specs.HexDigit.{noDigit, allDigits}
+use Rattle.text.specs.Hex.{hexBytes, decodeCall}
 use Rattle.text.specs.laws.Hex.{length-hex-bytes, decode-good, decode-bad}
 use Rattle.console.specs.LabelLine.{holdsLabel, mostLabel, Held}
 
@@ -37,7 +38,7 @@ module _ (text buffer bytes : List ℕ) (room : mostLabel ≤ length buffer) whe
   too-long e = ne-eqb (length (hexBytes text)) (needed (hexBytes text)) (λ q. omega (arith, leb-false (length text / 2) (length buffer) e, needed-most (hexBytes text), length-hex-bytes text))
 
   pub no-digits : (Bad, bytes) ≡ decodeCall text buffer → Held text Bad bytes
-  no-digits h = not-held (eqb (length text % 2) 0 && allDigits text) (leb (length text / 2) (length buffer)) size too-long (decode-bad text buffer bytes h)
+  no-digits h = not-held (eqb (length text % 2) 0 && allDigits noDigit text) (leb (length text / 2) (length buffer)) size too-long (decode-bad text buffer bytes h)
 
   -- the bytes that were decoded
   module _ (n : ℕ) (h : (Bytes n, bytes) ≡ decodeCall text buffer) (part : List ℕ) (f : part ≡ take n bytes) where
@@ -45,7 +46,7 @@ module _ (text buffer bytes : List ℕ) (room : mostLabel ≤ length buffer) whe
     part-is = let g = decode-good text buffer bytes n h in rw (g .1, g .2) (take-at (hexBytes text) _ _ refl)
 
     holds-is : holdsLabel text ≡ eqb (length part) (needed part)
-    holds-is = held (eqb (length text % 2) 0 && allDigits text) (leb (length text / 2) (length buffer)) size (decode-good text buffer bytes n h .0) ∙ ap (λ (x : List ℕ). eqb (length x) (needed x)) (sym (f ∙ part-is))
+    holds-is = held (eqb (length text % 2) 0 && allDigits noDigit text) (leb (length text / 2) (length buffer)) size (decode-good text buffer bytes n h .0) ∙ ap (λ (x : List ℕ). eqb (length x) (needed x)) (sym (f ∙ part-is))
 
     pub other-size : eqb (length part) (needed part) ≡ false → Held text Bad bytes
     other-size e = holds-is ∙ e

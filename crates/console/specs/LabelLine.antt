@@ -19,12 +19,13 @@ use Rattle.code.specs.Label.{needed, labelled, labelRead, orderIn}
 use Rattle.text.specs.declared.hex.Hex.{Hex}
 use Rattle.text.specs.declared.hex.Hex.the-variants.{Bytes, Bad}
 use Rattle.text.specs.Lines.{line, behind}
-use Rattle.text.specs.Hex.{allDigits, hexBytes}
+use Rattle.text.specs.HexDigit.{noDigit, allDigits}
+use Rattle.text.specs.Hex.{hexBytes}
 use Rattle.console.specs.RefusedLine.{refusedLine}
 
 -- a line holds exactly the bytes that its label needs, in digits of either case
 abbrev pub holdsLabel : List ℕ → Bool
-holdsLabel text = eqb (length text % 2) 0 && allDigits text && eqb (length (hexBytes text)) (needed (hexBytes text))
+holdsLabel text = eqb (length text % 2) 0 && allDigits noDigit text && eqb (length (hexBytes text)) (needed (hexBytes text))
 
 -- the most bytes that a label needs
 abbrev pub mostLabel : ℕ

@@ -7,6 +7,7 @@
 --   fromVerdict   a verdict
 --   fromReported  the answer of a verdict call
 --   fromLabelled  the answer of a label that is read
+--   fromQuoted    the answer of a quote
 --   asTally       a tally as the tally call takes it
 --   fromTallied   the answer of adding to a tally
 use Prim.Native.Nat.{ℕ, _-_}
@@ -22,6 +23,8 @@ use Rattle.code.specs.declared.Verdict.{Verdict}
 use Rattle.code.specs.declared.Reported.{Reported}
 use Rattle.code.specs.declared.Reported.the-variants as R
 use Rattle.code.specs.declared.Labelled.{Labelled}
+use Rattle.code.specs.declared.Quoted as code-quoted
+use Rattle.code.specs.declared.Quoted.the-variants as Q
 use Rattle.code.specs.declared.Tally as code-tally
 use Rattle.code.specs.declared.Tallied as code-tallied
 use Rattle.code.specs.declared.Tallied.the-variants as T
@@ -32,6 +35,7 @@ use Rattle.dnalm.specs.declared.structs.Counts.{Counts}
 use Rattle.dnalm.specs.declared.structs.Piece.{Piece}
 use Rattle.dnalm.specs.declared.structs.Said.{Said}
 use Rattle.dnalm.specs.declared.structs.Order.{Order}
+use Rattle.dnalm.specs.declared.structs.Quoted.{Quoted}
 use Rattle.dnalm.specs.declared.structs.Tally.{Tally}
 use Rattle.dnalm.specs.declared.structs.Tallied.{Tallied}
 
@@ -76,6 +80,11 @@ fromReported (R.Refused r) = record { refusal = numberOf r; place = placeOf r; k
 -- the answer of a label that is read
 abbrev pub fromLabelled : Labelled → Order
 fromLabelled l = record { refusal = testNumber (l .tested); b = l .b; count = l .count; lengths = l .lengths }
+
+-- the answer of a quote
+abbrev pub fromQuoted : code-quoted.Quoted → Quoted
+fromQuoted (Q.Numbers q) = record { refusal = 0; letters = q .letters; bytes = q .bytes; starts = q .starts }
+fromQuoted (Q.Refused r) = record { refusal = numberOf r; letters = 0; bytes = 0; starts = 0 }
 
 -- a tally as the tally call takes it
 abbrev pub asTally : Tally → code-tally.Tally

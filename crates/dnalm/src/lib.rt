@@ -12,9 +12,10 @@ ghost use Rattle.code.specs.Order.{order};
 ghost use Rattle.report.specs.ReportCall.{reportCall, verdictCall};
 ghost use Rattle.code.specs.Label.{labelCall, labelRead};
 ghost use Rattle.code.specs.Conversion.{convertCall};
+ghost use Rattle.code.specs.Quote.{quoteCall};
 ghost use Rattle.code.specs.Tallies.{tallied};
 ghost use Rattle.dnalm.specs.CallAnswers.{answered, fromLetter, fromWrote, fromCounted, fromLocated};
-ghost use Rattle.dnalm.specs.CallAnswers.{inNumbers, fromVerdict, fromReported, fromLabelled, asTally, fromTallied};
+ghost use Rattle.dnalm.specs.CallAnswers.{inNumbers, fromVerdict, fromReported, fromLabelled, fromQuoted, asTally, fromTallied};
 ghost use Rattle.dnalm.specs.Demand3Counts.{Demand-3-counts};
 use code::Checked;
 use code::Counted;
@@ -28,6 +29,7 @@ use lines::letter_of;
 use structs::Counts;
 use structs::Order;
 use structs::Piece;
+use structs::Quoted;
 use structs::Said;
 use structs::Tallied;
 use structs::Tally;
@@ -239,6 +241,30 @@ pub extern "C" fn dnalm_read_label(bytes: &[u8]) -> Order
         b: read.b,
         count: read.count,
         lengths,
+    }
+}
+
+// Answers what `strands` strands of an order take, as `quote::quote` does.
+#[no_mangle]
+pub extern "C" fn dnalm_quote(lengths: &[u16], b: u32, strands: u16) -> Quoted
+    ensures { λ r. do
+      let o = order (now (lengths .entry)) b in
+          ⌜ r ≡ fromQuoted (quoteCall o strands) ⌝ }
+{
+    let quoted = quote::quote(lengths, b, strands);
+    match quoted {
+        code::Quoted::Numbers(q) => Quoted {
+            refusal: 0,
+            letters: q.letters,
+            bytes: q.bytes,
+            starts: q.starts,
+        },
+        code::Quoted::Refused(r) => Quoted {
+            refusal: refusal::number_of(r) as u32,
+            letters: 0,
+            bytes: 0,
+            starts: 0,
+        },
     }
 }
 

@@ -48,6 +48,15 @@ pub struct Order {
     pub lengths: [u16; 64],
 }
 
+// What a quote answers: letters to order and bytes of sheets, both for all strands together; the most starts that the scans of one reading try.
+#[repr(C)]
+pub struct Quoted {
+    pub refusal: u32,
+    pub letters: u32,
+    pub bytes: u32,
+    pub starts: u32,
+}
+
 // How many strands were read, and their segments by mark.
 #[repr(C)]
 pub struct Tally {

@@ -1,8 +1,10 @@
 -- One hexadecimal digit. The digits below ten are the decimal ones.
---   noDigit   what a byte that is no digit counts as
---   valueOf   the value of a digit of either case
---   digitOf   the upper-case digit of a value
-use mathlib.Core.Bool.{cond}
+--   noDigit     what a byte that is no digit counts as
+--   valueOf     the value of a digit of either case
+--   digitOf     the upper-case digit of a value
+--   allDigits   all bytes are digits below a value
+use mathlib.Core.Bool.{Bool, true, _&&_, cond}
+use mathlib.Core.List.{List, [], _∷_}
 use Prim.Native.Nat.{ℕ, _+_, _-_}
 use lib.Dec.{ltb}
 
@@ -23,3 +25,8 @@ valueOf c =
 -- the upper-case digit of a value
 unfoldable pub digitOf : ℕ → ℕ
 digitOf v = cond (ltb v 10) (48 + v) (55 + v)
+
+-- all bytes are digits whose value is below n
+unfoldable pub allDigits : ℕ → List ℕ → Bool
+allDigits n [] = true
+allDigits n (c ∷ cs) = ltb (valueOf c) n && allDigits n cs

@@ -1,11 +1,19 @@
 // Decimal digits.
 use crate::hex_digit::digit_of;
+use crate::hex_digit::value_of;
 use crate::put::put;
+ghost use mathlib.Core.Path.{_≡_};
 ghost use mathlib.Core.List.{_++_};
 ghost use Prim.Native.Nat.{_+_, _≤_};
 ghost use lib.ListN.{length};
-ghost use Rattle.text.specs.Decimal.{decimal};
+ghost use Rattle.text.specs.Decimal.{decimal, numberIn};
 ghost use Rattle.text.specs.Put.{Appended};
+
+// The number that a text writes, or that it writes none.
+pub enum Number {
+    Of(u16),
+    Bad,
+}
 
 // The digits of a number, behind the first `at` bytes of `out`; the answer is where they end.
 pub fn put_decimal(out: &mut [u8], at: usize, n: u64) -> usize
@@ -26,4 +34,30 @@ pub fn put_named(out: &mut [u8], at: usize, word: &[u8], n: u64) -> usize
 {
     let end = put(out, at, word);
     put_decimal(out, end, n)
+}
+
+// The number that a text writes: one to five decimal digits and no other bytes, and at most 65,535; its first digits may be zeros.
+pub fn number_of(text: &[u8]) -> Number
+    ensures { λ r. ⌜ r ≡ numberIn (now (text .entry)) ⌝ }
+{
+    if text.len() < 1 {
+        return Number::Bad;
+    }
+    if 5 < text.len() {
+        return Number::Bad;
+    }
+    let mut n: u32 = 0;
+    let mut i = 0;
+    while i < text.len() {
+        let v = value_of(text[i]);
+        if 10 <= v {
+            return Number::Bad;
+        }
+        n = 10 * n + v as u32;
+        if 65535 < n {
+            return Number::Bad;
+        }
+        i += 1;
+    }
+    Number::Of(n as u16)
 }

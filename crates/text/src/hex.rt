@@ -8,7 +8,8 @@ ghost use mathlib.Core.Bool.{true};
 ghost use Prim.Native.Nat.{_+_, _/_, _≤_};
 ghost use lib.ListN.{length};
 ghost use Rattle.code.specs.Buffers.{overFront};
-ghost use Rattle.text.specs.Hex.{allDigits, hexBytes, hexDigits, decodeCall};
+ghost use Rattle.text.specs.HexDigit.{noDigit, allDigits};
+ghost use Rattle.text.specs.Hex.{hexBytes, hexDigits, decodeCall};
 ghost use Rattle.text.specs.Put.{Appended};
 
 // How many bytes digits gave, or that they gave none.
@@ -19,7 +20,7 @@ pub enum Hex {
 
 // All bytes are digits.
 pub fn all_digits(text: &[u8]) -> bool
-    ensures { λ r. ⌜ r ≡ allDigits (now (text .entry)) ⌝ }
+    ensures { λ r. ⌜ r ≡ allDigits noDigit (now (text .entry)) ⌝ }
 {
     let mut i = 0;
     while i < text.len() {
@@ -34,7 +35,7 @@ pub fn all_digits(text: &[u8]) -> bool
 
 // The bytes of digits, two to a byte, at the front of `out`.
 fn put_bytes(digits: &[u8], out: &mut [u8])
-    requires { ⌜ allDigits (now digits) ≡ true ⌝ }
+    requires { ⌜ allDigits noDigit (now digits) ≡ true ⌝ }
     requires { ⌜ length (now digits) / 2 ≤ length (now out) ⌝ }
     ensures { λ _. ⌜ now (out .exit) ≡ overFront (hexBytes (now (digits .entry))) (now (out .entry)) ⌝ }
 {

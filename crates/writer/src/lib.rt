@@ -15,7 +15,7 @@ ghost use Rattle.code.specs.Buffers.{overFront};
 ghost use Rattle.code.specs.Writing.{strandOf, writeCall};
 
 // The length of a layout's strand.
-fn extent_of(lengths: &[u16]) -> usize
+pub fn extent_of(lengths: &[u16]) -> usize
     requires { ⌜ Lengths mostLength (now lengths) × (1 ≤ length (now lengths)) × (length (now lengths) ≤ mostSegments) ⌝ }
     ensures { λ r. ⌜ r ≡ extent false (now (lengths .entry)) ⌝ }
 {

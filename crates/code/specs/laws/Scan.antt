@@ -1,6 +1,7 @@
 -- Laws of a scan: what is found, and what is tried in which order.
 --   first, standing-append   the first try that stands in two lists
 --   stands-found             what is found stands
+--   window-passed            a try of a window names its segment
 --   tries-passed             fewer segments are passed than there are
 --   tries-append             the tries for the segments behind others
 --   Among                    a place in a list
@@ -53,7 +54,7 @@ module _ (s letters : List ℕ) where
       go false h q later = later q
 
   -- a try of a window names its segment
-  window-passed : (p k : ℕ) (os : List ℕ) (t : Try) → found (map (tryAt p k) os) ≡ some t → t .passed ≡ p
+  pub window-passed : (p k : ℕ) (os : List ℕ) (t : Try) → found (map (tryAt p k) os) ≡ some t → t .passed ≡ p
   unfolding firstStanding
   window-passed p k [] t e = nothing-found e
   window-passed p k (o ∷ os) t e = go (stands s letters (tryAt p k o)) e (window-passed p k os t)

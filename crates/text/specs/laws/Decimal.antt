@@ -2,17 +2,21 @@
 --   decimal-short, decimal-long   the digits of a number below 10, and of any other
 --   length-long, length-decimal   how many there are
 --   decimal-injective             two numbers with the same digits are equal
+--   decimal-read                  the digits of a number are read as it
 use mathlib.Core.Path.{_≡_, refl, sym, ap, _∙_}
+use mathlib.Core.Bool.{true}
 use mathlib.Core.List.{List, [], _∷_, _++_}
 use Prim.Native.Nat.{ℕ, zero, suc, _+_, _*_, _/_, _%_, _^_, _<_, _≤_}
 use native.Mathlib.Nat.{pow-succ'}
 use native.Mathlib.Omega.{arith}
 use native.Mathlib.Decide.{decLe}
-use borrow.Author.Tests.{lt-ltb, le-ltb}
+use borrow.Author.Tests.{lt-ltb, le-ltb, le-leb}
+use lib.Dec.{ltb}
 use lib.ListN.{length, length-append}
-use Rattle.text.specs.HexDigit.{valueOf, digitOf}
-use Rattle.text.specs.Decimal.{decimalIn, decimal}
-use Rattle.text.specs.laws.HexDigit.{value-digit}
+use Rattle.text.specs.HexDigit.{valueOf, digitOf, allDigits}
+use Rattle.text.specs.Decimal.{decimalIn, decimal, numberFrom, numberIn}
+use Rattle.text.specs.declared.decimal.Number.the-variants.{Of}
+use Rattle.text.specs.laws.HexDigit.{value-digit, digits-append}
 
 -- room for more gives no other digits
 room : (m k n : ℕ) → n < m → n < k → decimalIn m n ≡ decimalIn k n
@@ -46,11 +50,6 @@ length-decimal (suc k) n h = go (decLe 10 n) (length-decimal k (n / 10) (omega (
     go (yes p) l = omega (arith, length-long n p)
     go (no q) l = rw (decimal-short n (omega arith)) (omega arith)
 
--- the number that digits write behind those of a
-numberFrom : ℕ → List ℕ → ℕ
-numberFrom a [] = a
-numberFrom a (c ∷ cs) = numberFrom (10 * a + valueOf c) cs
-
 number-append : (a : ℕ) (cs : List ℕ) (c : ℕ) → numberFrom a (cs ++ c ∷ []) ≡ 10 * numberFrom a cs + valueOf c
 unfolding numberFrom
 number-append a [] c = refl
@@ -72,3 +71,25 @@ number-in (suc m) n h = go (decLe 10 n) (number-in m (n / 10))
 pub decimal-injective : (a b : ℕ) → decimal a ≡ decimal b → a ≡ b
 unfolding decimal
 decimal-injective a b e = sym (number-in (suc a) a (omega arith)) ∙ (ap (numberFrom 0) e ∙ number-in (suc b) b (omega arith))
+
+-- they are decimal digits, one or more
+digits-in : (m n : ℕ) → n < m → (allDigits 10 (decimalIn m n) ≡ true) × (0 < length (decimalIn m n))
+unfolding decimalIn allDigits
+digits-in zero n h = absurd (omega arith)
+digits-in (suc m) n h = go (decLe 10 n) (digits-in m (n / 10))
+  where
+    last : ltb (valueOf (digitOf (n % 10))) 10 ≡ true
+    last = rw (value-digit (n % 10) (omega arith)) (lt-ltb (n % 10) 10 (omega arith))
+
+    go : Dec (10 ≤ n) → (n / 10 < m → (allDigits 10 (decimalIn m (n / 10)) ≡ true) × (0 < length (decimalIn m (n / 10)))) → (allDigits 10 (decimalIn (suc m) n) ≡ true) × (0 < length (decimalIn (suc m) n))
+    go (yes p) e =
+        rw (le-ltb n 10 p)
+        (rw (digits-append 10 (decimalIn m (n / 10)) (digitOf (n % 10) ∷ []), e (omega arith) .0, last), omega (arith, length-append (decimalIn m (n / 10)) (digitOf (n % 10) ∷ [])))
+    go (no q) e = rw (lt-ltb n 10 (omega arith)) (rw last, omega arith)
+
+-- a number of 16 bits is read from its digits
+pub decimal-read : (n : ℕ) → n ≤ 65535 → numberIn (decimal n) ≡ Of n
+unfolding decimal
+decimal-read n h =
+    let d = digits-in (suc n) n (omega arith) in
+    rw (le-ltb (length (decimalIn (suc n) n)) 1 (omega (arith, d .1)), le-ltb 5 (length (decimalIn (suc n) n)) (length-decimal 4 n (omega arith)), d .0, number-in (suc n) n (omega arith), le-leb n 65535 h)

@@ -11,22 +11,13 @@ use lib.ListN.{length, getD, take, drop, drop-of-length-le}
 use lib.Seq.{take-suc, drop-cons, drop-nil}
 use Rattle.code.specs.Symbols.{Below}
 use Rattle.code.specs.Buffers.{overFront}
-use Rattle.text.specs.HexDigit.{noDigit, valueOf, digitOf}
+use Rattle.text.specs.HexDigit.{noDigit, valueOf, digitOf, allDigits}
 use Rattle.text.specs.laws.HexDigit.{value-digit}
 use Rattle.text.specs.declared.hex.Hex.{Hex}
 use Rattle.text.specs.declared.hex.Hex.the-variants.{Bytes, Bad}
-use Rattle.text.specs.Hex.{allDigits, hexBytes, hexDigits, decodable, decodeCall}
+use Rattle.text.specs.Hex.{hexBytes, hexDigits, decodable, decodeCall}
 
 -- Digits
-
--- one byte further in a text
-pub all-digits-step : (cs : List ℕ) (i : ℕ) → i < length cs → allDigits (drop i cs) ≡ (ltb (valueOf (getD cs i 0)) noDigit && allDigits (drop (i + 1) cs))
-unfolding allDigits
-all-digits-step cs i h = rw (add-one, drop-cons cs i 0 h)
-
-pub all-digits-end : (cs : List ℕ) (i : ℕ) → length cs ≤ i → allDigits (drop i cs) ≡ true
-unfolding allDigits
-all-digits-end cs i h = rw (drop-of-length-le cs h)
 
 and-left : (a b : Bool) → (a && b) ≡ true → a ≡ true
 and-left true b e = refl
@@ -38,17 +29,17 @@ and-right false true e = refl
 and-right false false e = e
 
 -- the first byte is a digit, and so are the others
-module _ (c : ℕ) (cs : List ℕ) (e : allDigits (c ∷ cs) ≡ true) where
+module _ (c : ℕ) (cs : List ℕ) (e : allDigits noDigit (c ∷ cs) ≡ true) where
   first-digit : valueOf c < 16
   unfolding allDigits
-  first-digit = ltb-true (valueOf c) noDigit (and-left (ltb (valueOf c) noDigit) (allDigits cs) e)
+  first-digit = ltb-true (valueOf c) noDigit (and-left (ltb (valueOf c) noDigit) (allDigits noDigit cs) e)
 
-  other-digits : allDigits cs ≡ true
+  other-digits : allDigits noDigit cs ≡ true
   unfolding allDigits
-  other-digits = and-right (ltb (valueOf c) noDigit) (allDigits cs) e
+  other-digits = and-right (ltb (valueOf c) noDigit) (allDigits noDigit cs) e
 
 -- each of them is a digit
-pub digit-at : (cs : List ℕ) → allDigits cs ≡ true → (i : ℕ) → i < length cs → valueOf (getD cs i 0) < 16
+pub digit-at : (cs : List ℕ) → allDigits noDigit cs ≡ true → (i : ℕ) → i < length cs → valueOf (getD cs i 0) < 16
 digit-at [] e i h = absurd (omega arith)
 digit-at (c ∷ cs) e zero h = first-digit c cs e
 digit-at (c ∷ cs) e (suc i) h = digit-at cs (other-digits c cs e) i (omega arith)
@@ -73,7 +64,7 @@ hex-bytes-drop (suc i) (a ∷ []) = rw (times-two i)
 hex-bytes-drop (suc i) (a ∷ b ∷ cs) = rw (times-two i) (hex-bytes-drop i cs)
 
 -- digits give bytes
-pub hex-bytes-below : (cs : List ℕ) → allDigits cs ≡ true → Below 256 (hexBytes cs)
+pub hex-bytes-below : (cs : List ℕ) → allDigits noDigit cs ≡ true → Below 256 (hexBytes cs)
 unfolding hexBytes
 hex-bytes-below [] e i = omega arith
 hex-bytes-below (a ∷ []) e i = omega arith
@@ -98,7 +89,7 @@ unfolding hexDigits
 hex-digits-next bs i h = rw (add-one, take-suc bs i 0 h) (hex-digits-append (take i bs) (getD bs i 0 ∷ []))
 
 -- what is encoded are digits
-pub all-digits-hex : (bs : List ℕ) → Below 256 bs → allDigits (hexDigits bs) ≡ true
+pub all-digits-hex : (bs : List ℕ) → Below 256 bs → allDigits noDigit (hexDigits bs) ≡ true
 unfolding allDigits hexDigits
 all-digits-hex [] h = refl
 all-digits-hex (x ∷ bs) h =

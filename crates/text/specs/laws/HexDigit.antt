@@ -1,10 +1,16 @@
--- Laws of one digit.
-use mathlib.Core.Path.{_≡_}
+-- Laws of digits, in the order of their definitions.
+use mathlib.Core.Path.{_≡_, refl}
+use mathlib.Core.Bool.{Bool, true, false, _&&_}
+use mathlib.Core.List.{List, [], _∷_, _++_}
 use Prim.Native.Nat.{ℕ, _+_, _<_, _≤_}
+use native.Mathlib.Numerals.{add-one}
 use native.Mathlib.Omega.{arith}
 use native.Mathlib.Decide.{decLe}
 use borrow.Author.Tests.{lt-ltb, le-ltb}
-use Rattle.text.specs.HexDigit.{valueOf, digitOf}
+use lib.Dec.{ltb}
+use lib.ListN.{length, getD, drop, drop-of-length-le}
+use lib.Seq.{drop-cons}
+use Rattle.text.specs.HexDigit.{valueOf, digitOf, allDigits}
 
 low-digit : (v : ℕ) → v < 10 → valueOf (digitOf v) ≡ v
 unfolding valueOf digitOf
@@ -36,3 +42,21 @@ value-lower v l h =
       lt-ltb (87 + v) 103 (omega arith),
     )
     (omega arith)
+
+-- one byte further in a text
+pub all-digits-step : (n : ℕ) (cs : List ℕ) (i : ℕ) → i < length cs → allDigits n (drop i cs) ≡ (ltb (valueOf (getD cs i 0)) n && allDigits n (drop (i + 1) cs))
+unfolding allDigits
+all-digits-step n cs i h = rw (add-one, drop-cons cs i 0 h)
+
+pub all-digits-end : (n : ℕ) (cs : List ℕ) (i : ℕ) → length cs ≤ i → allDigits n (drop i cs) ≡ true
+unfolding allDigits
+all-digits-end n cs i h = rw (drop-of-length-le cs h)
+
+pub digits-append : (n : ℕ) (cs ds : List ℕ) → allDigits n (cs ++ ds) ≡ (allDigits n cs && allDigits n ds)
+unfolding allDigits
+digits-append n [] ds = refl
+digits-append n (c ∷ cs) ds = go (ltb (valueOf c) n) (digits-append n cs ds)
+  where
+    go : (b : Bool) → allDigits n (cs ++ ds) ≡ (allDigits n cs && allDigits n ds) → (b && allDigits n (cs ++ ds)) ≡ ((b && allDigits n cs) && allDigits n ds)
+    go true h = h
+    go false h = refl
