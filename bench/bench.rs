@@ -1,6 +1,6 @@
 //! Letters written and read a second: the library against the tuned rival, or against the library of another commit.
 //! The strand whose reading costs most, beside an untouched one.
-//! Letters reported a second: the library's report beside its reading.
+//! Letters reported a second: the library's report beside its reading. Letters quoted a second: its quote of a strand beside its writing.
 
 #[allow(dead_code)]
 #[path = "../tests/outside/ffi.rs"]
@@ -191,6 +191,14 @@ fn report_pass(set: &Set, room: &mut Room) {
         black_box(report_one(lengths, b, black_box(strand), room));
     }
     black_box(room);
+}
+
+/// One pass of quotes over the set, one strand each.
+fn quote_pass(set: &Set) {
+    let (lengths, b) = (black_box(&set.lengths), black_box(set.b));
+    for _ in &set.strands {
+        black_box(ffi::quote(lengths, b, 1));
+    }
 }
 
 /// So many symbols of a message, or marks of a sheet.
@@ -421,6 +429,23 @@ fn report_table() {
     }
 }
 
+fn quote_table() {
+    println!(
+        "million letters a second, best of {ROUNDS} rounds; ratio of times quote/write, median"
+    );
+    println!("{:<28} {:>9} {:>9} {:>7}", "", "write", "quote", "ratio");
+    for (layout, lengths, b) in layouts() {
+        let set = set(Job::Write, &lengths, b);
+        let quoted = ffi::quote(&lengths, b, set.strands.len() as u16);
+        assert_eq!(quoted.letters as usize, set.letters);
+        let measured = measure(&set, |which, room| match which {
+            0 => pass(Side::Library, Job::Write, &set, room),
+            _ => quote_pass(&set),
+        });
+        put_row(layout, "quote", &measured);
+    }
+}
+
 /// N readings or reports for counting instructions: of a fixed set of strands with k=16, or on the lengths of the worst strand.
 fn work(side: &str, strands: &str, count: usize) {
     let mixed = [Job::Untouched, Job::OneEdit, Job::Damaged];
@@ -452,7 +477,7 @@ fn work(side: &str, strands: &str, count: usize) {
 
 fn usage() -> ! {
     eprintln!(
-        "usage: bench | bench report | bench work library|tuned|report|none 8|32|128|256|untouched|worst N"
+        "usage: bench | bench report | bench quote | bench work library|tuned|report|none 8|32|128|256|untouched|worst N"
     );
     exit(2);
 }
@@ -463,6 +488,7 @@ fn main() {
     match arguments[..] {
         [] => table(),
         ["report"] => report_table(),
+        ["quote"] => quote_table(),
         ["work", side, strands, count] => match count.parse() {
             Ok(count) => work(side, strands, count),
             _ => usage(),
