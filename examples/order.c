@@ -1,4 +1,4 @@
-/* Orders 32 bytes in segments that are short at the ends, damages two letters, one to an N, reads the message back by the label and reports. */
+/* Quotes and orders 32 bytes in segments that are short at the ends, damages two letters, one to an N, reads the message back by the label and reports. */
 #include "dnalm.h"
 #include <stdio.h>
 #include <string.h>
@@ -23,6 +23,12 @@ int main(void)
     uint8_t message[DNALM_MOST_BYTES];
     uint8_t sheet[DNALM_MOST_SHEET];
     uint8_t report[DNALM_MOST_REPORT];
+
+    dnalm_quoted quoted = dnalm_quote(LENGTHS, SEGMENTS, B, 1);
+    if (refused(quoted.refusal)) {
+        return 1;
+    }
+    printf("letters %u sheet bytes %u starts %u\n", (unsigned)quoted.letters, (unsigned)quoted.sheet_bytes, (unsigned)quoted.starts);
 
     dnalm_written labelled = dnalm_write_label(LENGTHS, SEGMENTS, B, label, sizeof label);
     if (refused(labelled.refusal)) {

@@ -1,4 +1,4 @@
-// Orders 32 bytes in segments that are short at the ends, damages two letters, one to an N, reads the message back by the label and reports.
+// Quotes and orders 32 bytes in segments that are short at the ends, damages two letters, one to an N, reads the message back by the label and reports.
 use std::process::exit;
 
 #[repr(C)]
@@ -31,6 +31,14 @@ struct Order {
     b: u32,
     count: usize,
     lengths: [u16; 64],
+}
+
+#[repr(C)]
+struct Quoted {
+    refusal: u32,
+    letters: u32,
+    sheet_bytes: u32,
+    starts: u32,
 }
 
 #[link(name = "dnalm", kind = "static")]
@@ -80,6 +88,7 @@ extern "C" {
         out_length: usize,
     ) -> Written;
     fn dnalm_read_label(bytes: *const u8, bytes_length: usize) -> Order;
+    fn dnalm_quote(lengths: *const u16, lengths_count: usize, b: u32, strands: u16) -> Quoted;
 }
 
 // The calls over slices: a slice is always good for its length, and two of them never overlap where one is written to.
@@ -157,6 +166,10 @@ fn read_label(bytes: &[u8]) -> Order {
     unsafe { dnalm_read_label(bytes.as_ptr(), bytes.len()) }
 }
 
+fn quote(lengths: &[u16], b: u32, strands: u16) -> Quoted {
+    unsafe { dnalm_quote(lengths.as_ptr(), lengths.len(), b, strands) }
+}
+
 // Ends the program where a call is refused.
 fn taken(refusal: u32, place: usize) {
     if refusal != 0 {
@@ -170,6 +183,13 @@ const B: u32 = 32;
 const MESSAGE: &[u8; B as usize] = b"Barley seeds, lot 17, drawer 204";
 
 fn main() {
+    let quoted = quote(&LENGTHS, B, 1);
+    taken(quoted.refusal, 0);
+    println!(
+        "letters {} sheet bytes {} starts {}",
+        quoted.letters, quoted.sheet_bytes, quoted.starts
+    );
+
     let mut label = [0; 75];
     let labelled = write_label(&LENGTHS, B, &mut label);
     taken(labelled.refusal, labelled.place);

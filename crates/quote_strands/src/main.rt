@@ -5,29 +5,17 @@ use code::Refusal;
 use console::Input;
 use console::put_refused;
 use text::decimal::Number;
-use text::decimal::put_named;
+use text::decimal::put_three;
 use text::lines::behind;
 use text::lines::front;
 use text::lines::line;
-use text::put::put;
 ghost use mathlib.Core.Path.{_≡_};
 ghost use Prim.Native.Nat.{_≤_};
 ghost use lib.ListN.{length, take};
 ghost use Rattle.code.specs.Order.{order};
 ghost use Rattle.code.specs.Quote.{quoteCall};
 ghost use Rattle.text.specs.Put.{Appended};
-ghost use Rattle.quote_strands.specs.QuoteOutput.{quoteLines, shown, quoteText, quoteOutput, outputRoom};
-
-// A line for each number of a quote, at the front of `out`; the answer is where they end.
-fn put_numbers(out: &mut [u8], letters: u32, bytes: u32, starts: u32) -> usize
-    requires { ⌜ outputRoom ≤ length (now out) ⌝ }
-    ensures { λ r. ⌜ Appended (now (out .entry)) 0 (quoteLines letters bytes starts) (now (out .exit)) r ⌝ }
-{
-    let first = put_named(out, 0, b"letters ", letters as u64);
-    let second = put_named(out, first, b"\nsheet bytes ", bytes as u64);
-    let third = put_named(out, second, b"\nstarts ", starts as u64);
-    put(out, third, b"\n")
-}
+ghost use Rattle.quote_strands.specs.QuoteOutput.{shown, quoteText, quoteOutput, outputRoom};
 
 // What so many strands of an order take, at the front of `out`; the answer is where it ends.
 fn put_quote(out: &mut [u8], lengths: &[u16], b: u32, strands: u16) -> usize
@@ -37,7 +25,16 @@ fn put_quote(out: &mut [u8], lengths: &[u16], b: u32, strands: u16) -> usize
           ⌜ Appended (now (out .entry)) 0 (shown (quoteCall o strands)) (now (out .exit)) r ⌝ }
 {
     match quote::quote(lengths, b, strands) {
-        Quoted::Numbers(q) => put_numbers(out, q.letters, q.bytes, q.starts),
+        Quoted::Numbers(q) => put_three(
+            out,
+            0,
+            b"letters ",
+            q.letters,
+            b"\nsheet bytes ",
+            q.bytes,
+            b"\nstarts ",
+            q.starts,
+        ),
         Quoted::Refused(r) => put_refused(out, 0, r),
     }
 }

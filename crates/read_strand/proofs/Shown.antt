@@ -10,11 +10,13 @@ use lib.ListN.{length, take, replicate, length-take}
 use Rattle.code.specs.declared.Refusal.{Refusal}
 use Rattle.code.specs.declared.Counted.{Counted}
 use Rattle.code.specs.declared.Counted.the-variants as N
+use Rattle.code.specs.Ascii.{ascii}
 use Rattle.code.specs.Limits.{mostBytes}
 use Rattle.code.specs.Order.{Order}
 use Rattle.code.specs.ReadCall.{readCall}
 use Rattle.text.specs.Lines.{feed}
 use Rattle.text.specs.Hex.{hexDigits}
+use Rattle.text.specs.Decimal.{threeNamed}
 use Rattle.text.specs.laws.Hex.{length-hex-digits}
 use Rattle.console.specs.RefusedLine.{refusedLine}
 use Rattle.read_strand.specs.ReadOutput.{countsLine, shown, readText}
@@ -25,8 +27,8 @@ module _ (o : Order) (letters message sheet : List ℕ) (answer : Counted) (e : 
   unfolding readText
   answered c told = ap (λ (a : Counted). shown (o .b) (a, (message, sheet))) (sym told) ∙ ap (shown (o .b)) e
 
-  pub counts-shown : (clean corrected lost : ℕ) → answer ≡ N.Counts clean corrected lost → hexDigits (take (o .b) message) ++ feed ∷ countsLine clean corrected lost ≡ readText o letters
-  unfolding shown
+  pub counts-shown : (clean corrected lost : ℕ) → answer ≡ N.Counts clean corrected lost → hexDigits (take (o .b) message) ++ feed ∷ threeNamed (ascii "clean ") clean (ascii " corrected ") corrected (ascii " lost ") lost ≡ readText o letters
+  unfolding shown countsLine threeNamed
   counts-shown clean corrected lost told = answered (N.Counts clean corrected lost) told
 
   pub refused-shown : (r : Refusal) → answer ≡ N.Refused r → refusedLine r ≡ readText o letters

@@ -3,29 +3,18 @@ use code::Checked;
 use code::Counted;
 use console::Input;
 use console::put_refused;
-use text::decimal::put_named;
+use text::decimal::put_three;
 use text::hex::put_hex;
 use text::lines::behind;
 use text::lines::front;
 use text::lines::line;
 use text::put::put;
 ghost use mathlib.Core.Path.{_≡_};
-ghost use Prim.Native.Nat.{_+_, _≤_};
+ghost use Prim.Native.Nat.{_≤_};
 ghost use lib.ListN.{length, take};
 ghost use Rattle.code.specs.Order.{order};
 ghost use Rattle.text.specs.Put.{Appended};
-ghost use Rattle.read_strand.specs.ReadOutput.{countsLine, countsRoom, readText, readOutput, outputRoom};
-
-// The line with the counts, behind the first `at` bytes of `out`; the answer is where it ends.
-fn put_counts(out: &mut [u8], at: usize, clean: u32, corrected: u32, lost: u32) -> usize
-    requires { ⌜ at + countsRoom ≤ length (now out) ⌝ }
-    ensures { λ r. ⌜ Appended (now (out .entry)) at (countsLine clean corrected lost) (now (out .exit)) r ⌝ }
-{
-    let first = put_named(out, at, b"clean ", clean as u64);
-    let second = put_named(out, first, b" corrected ", corrected as u64);
-    let third = put_named(out, second, b" lost ", lost as u64);
-    put(out, third, b"\n")
-}
+ghost use Rattle.read_strand.specs.ReadOutput.{readText, readOutput, outputRoom};
 
 // What letters are read as, for an order, at the front of `out`; the answer is where it ends.
 fn put_reading(out: &mut [u8], lengths: &[u16], b: u32, letters: &[u8]) -> usize
@@ -40,7 +29,16 @@ fn put_reading(out: &mut [u8], lengths: &[u16], b: u32, letters: &[u8]) -> usize
         Counted::Counts(clean, corrected, lost) => {
             let digits = put_hex(out, 0, front(&message, b as usize));
             let next = put(out, digits, b"\n");
-            put_counts(out, next, clean, corrected, lost)
+            put_three(
+                out,
+                next,
+                b"clean ",
+                clean,
+                b" corrected ",
+                corrected,
+                b" lost ",
+                lost,
+            )
         }
         Counted::Refused(r) => put_refused(out, 0, r),
     }

@@ -2,6 +2,8 @@
 --   decimalIn    the last digits of a number
 --   decimal      the digits of a number
 --   named        a word and a number
+--   threeNamed   three numbers, each behind its word, and a line feed
+--   threeRoom    room for them behind their words
 --   numberFrom   the number that digits write
 --   numberIn     the number that a text writes, if it writes one
 use mathlib.Core.Bool.{Bool, not, _&&_, cond}
@@ -12,6 +14,7 @@ use lib.Dec.{ltb, leb}
 use lib.ListN.{length}
 use Rattle.code.specs.Ascii.{ascii}
 use Rattle.code.specs.Refusals.{outside}
+use Rattle.text.specs.Lines.{feed}
 use Rattle.text.specs.HexDigit.{valueOf, digitOf, allDigits}
 use Rattle.text.specs.declared.decimal.Number.{Number}
 use Rattle.text.specs.declared.decimal.Number.the-variants.{Of, Bad}
@@ -28,6 +31,14 @@ decimal n = decimalIn (suc n) n
 -- a word and a number
 abbrev pub named : String → ℕ → List ℕ
 named w n = ascii w ++ decimal n
+
+-- three numbers, each behind its word, and a line feed
+unfoldable pub threeNamed : List ℕ → ℕ → List ℕ → ℕ → List ℕ → ℕ → List ℕ
+threeNamed first a second b third c = (first ++ decimal a) ++ (second ++ decimal b) ++ (third ++ decimal c) ++ feed ∷ []
+
+-- room for them behind their words: three numbers of at most ten digits, and a line feed
+abbrev pub threeRoom : ℕ
+threeRoom = 31
 
 -- the number that digits write behind those of a
 unfoldable pub numberFrom : ℕ → List ℕ → ℕ

@@ -6,7 +6,7 @@ ghost use mathlib.Core.Path.{_≡_};
 ghost use mathlib.Core.List.{_++_};
 ghost use Prim.Native.Nat.{_+_, _≤_};
 ghost use lib.ListN.{length};
-ghost use Rattle.text.specs.Decimal.{decimal, numberIn};
+ghost use Rattle.text.specs.Decimal.{decimal, threeNamed, threeRoom, numberIn};
 ghost use Rattle.text.specs.Put.{Appended};
 
 // The number that a text writes, or that it writes none.
@@ -34,6 +34,26 @@ pub fn put_named(out: &mut [u8], at: usize, word: &[u8], n: u64) -> usize
 {
     let end = put(out, at, word);
     put_decimal(out, end, n)
+}
+
+// Three numbers, each behind its word, and a line feed, behind the first `at` bytes of `out`; the answer is where they end.
+pub fn put_three(
+    out: &mut [u8],
+    at: usize,
+    first: &[u8],
+    a: u32,
+    second: &[u8],
+    b: u32,
+    third: &[u8],
+    c: u32,
+) -> usize
+    requires { ⌜ at + (length (now first) + length (now second) + length (now third) + threeRoom) ≤ length (now out) ⌝ }
+    ensures { λ r. ⌜ Appended (now (out .entry)) at (threeNamed (now (first .entry)) a (now (second .entry)) b (now (third .entry)) c) (now (out .exit)) r ⌝ }
+{
+    let one = put_named(out, at, first, a as u64);
+    let two = put_named(out, one, second, b as u64);
+    let three = put_named(out, two, third, c as u64);
+    put(out, three, b"\n")
 }
 
 // The number that a text writes: one to five decimal digits and no other bytes, and at most 65,535; its first digits may be zeros.
