@@ -282,12 +282,13 @@ dnalm_written dnalm_convert_label(const uint8_t *label, size_t label_length,
                                   uint8_t *out, size_t out_length);
 
 /*
- * Answers what strands of these lengths and B = b take, without making them: their letters, which are the
- * letters that dnalm_write writes for any message, and the bytes of their sheets, (l + 3) / 4 for each strand.
- * starts is how often the scans of one reading, those that dnalm_read makes behind lost segments, look for a
- * clean segment at a start: at most, whatever letters are received, and exactly so often for no letters. A start
- * counts past the strand's end too, and anew for each segment that is sought there. It is
- * 8 * l * (l - 1) + (l - 1), and one less if l is above 1 and the first length is 2. strands does not change it.
+ * Answers what strands of these lengths and B = b take, without making them: their letters, for each strand
+ * as many as dnalm_write writes, whatever the message; and the bytes of their sheets, (l + 3) / 4 for each.
+ * starts is of one reading: behind a lost segment the reading steps try one start after the other for the
+ * next ones, and this is how many they try at most, whatever letters are received; for no letters exactly
+ * so many. A start counts past the strand's end too, and anew for each segment that is sought there. It is
+ * 8 * l * (l - 1) + (l - 1), and one less if l is above 1 and the first length is 2. dnalm_read leaves out
+ * starts at which nothing can stand.
  *
  * Refused, in this order: 1, 2, 3. It writes to nothing.
  */
