@@ -17,7 +17,7 @@ use Rattle.code.specs.Bounds.{longest, widest}
 use Rattle.code.specs.Layers.{pair, bits, width}
 use Rattle.code.specs.Segment.{sep, marker, block, segment, data_at}
 use Rattle.code.specs.Reading.{is_prefix}
-use Rattle.code.specs.laws.Reading.{and-true, and-false}
+use Rattle.code.proofs.laws.Reading.{and-true, and-false}
 use Rattle.places.proofs.TestsAtPlaces.{block_past}
 use Rattle.tail.specs.declared.Tail.{Tail}
 use Rattle.tail.specs.Tails.{mark, syndrome_in, IsTail}

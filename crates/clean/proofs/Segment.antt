@@ -10,10 +10,10 @@ use lib.Dec.{eqb}
 use lib.ListN.{length, take, drop, length-drop}
 use lib.Seq.{drop-drop, length-take-le, take_all}
 use Rattle.code.specs.Segment.{check, separator, syndrome_of, block, segment, size, data_at}
-use Rattle.code.specs.laws.Segment.{length-segment}
+use Rattle.code.proofs.laws.Segment.{length-segment}
 use Rattle.code.specs.Layers.{width}
 use Rattle.code.specs.Reading.{is_prefix}
-use Rattle.code.specs.laws.Reading.{and-true, and-false}
+use Rattle.code.proofs.laws.Reading.{and-true, and-false}
 use Rattle.places.proofs.TestsAtPlaces.{block_past}
 use Rattle.tail.specs.Tails.{mark}
 use Rattle.clean.proofs.Parts.{prefix_append, segment_seen}

@@ -14,14 +14,14 @@ use lib.ListN.{length, get_or, take, drop, take-append-drop, length-drop}
 use lib.Seq.{take_at, get_or-take, get_or-drop, length-take-le}
 use Rattle.code.specs.Symbols.{Below}
 use Rattle.code.specs.Bounds.{longest, widest}
-use Rattle.code.specs.laws.Below.{Below-take, Below-drop}
+use Rattle.code.proofs.laws.Below.{Below-take, Below-drop}
 use Rattle.code.specs.Layers.{layer, syndrome, width, bits, number}
-use Rattle.code.specs.laws.Layers.{length-layer, length-bits, layer-pair_high, layer-pair_low, pair_layers, number-bits, bits-number, syndrome_below, width-Least}
+use Rattle.code.proofs.laws.Layers.{length-layer, length-bits, layer-pair_high, layer-pair_low, pair_layers, number-bits, bits-number, syndrome_below, width-Least}
 use Rattle.code.specs.Segment.{check, sep, separator, syndrome_of}
-use Rattle.code.specs.laws.Segment.{length_syndrome, width_two}
+use Rattle.code.proofs.laws.Segment.{length_syndrome, width_two}
 use Rattle.code.specs.Reading.{is_prefix}
-use Rattle.code.specs.laws.Reading.{prefix_self, prefix_split}
-use Rattle.code.specs.laws.HitTail.{is_false}
+use Rattle.code.proofs.laws.Reading.{prefix_self, prefix_split}
+use Rattle.code.proofs.laws.HitTail.{is_false}
 use Rattle.layers.specs.declared.Layers.{Layers}
 use Rattle.layers.specs.LayerSums.{both, highs, lows}
 

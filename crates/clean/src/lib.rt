@@ -1,4 +1,7 @@
 // Whether a written segment, or a part of one, stands at a place.
+
+#![tactic(auto)]
+
 ghost use Rattle.std.specs.Prelude.{◌≡◌, ◌+◌, ◌-◌, ◌<◌, ◌≤◌, length, take, drop};
 ghost use Rattle.code.specs.Bounds.{widest, reach, Length, Received};
 ghost use Rattle.code.specs.Layers.{sum_of_places};
@@ -60,7 +63,7 @@ fn may_end(rest: &[u16], end: usize, n: usize) -> bool
 fn syndrome_stands(s: &[u8], d: usize, to: usize, end: usize, places: Layers) -> bool
     requires received { Received s.now }
     requires placed { Placed d to end s.now }
-    requires places_value { places ≡ both sum_of_places (take (to - d) (drop d s.now)) }
+    requires places { places ≡ both sum_of_places (take (to - d) (drop d s.now)) }
     ensures { result ≡ is_prefix (syndrome_of (take (to - d) (drop d s.now))) (drop (to + 4) s.now) }
 {
     let from = to + 4;
@@ -76,7 +79,7 @@ fn syndrome_stands(s: &[u8], d: usize, to: usize, end: usize, places: Layers) ->
 fn tail_stands(s: &[u8], d: usize, to: usize, end: usize, sums: Summed) -> bool
     requires received { Received s.now }
     requires placed { Placed d to end s.now }
-    requires sums_value { sums ≡ sums_of (take (to - d) (drop d s.now)) }
+    requires sums { sums ≡ sums_of (take (to - d) (drop d s.now)) }
     ensures { result ≡ is_prefix (behind_message (take (to - d) (drop d s.now))) (drop to s.now) }
 {
     let c = sums.check;
@@ -100,8 +103,8 @@ pub fn is_clean(
     rest: &[u16],
 ) -> bool
     requires received { Received s.now }
-    requires f_bound { (f < 4) × Length k × (d ≡ p + data_at marked) × (d + k ≤ length s.now) }
-    requires sums_value { sums ≡ sums_of (take k (drop d s.now)) }
+    requires placed { (f < 4) × Length k × (d ≡ p + data_at marked) × (d + k ≤ length s.now) }
+    requires sums { sums ≡ sums_of (take k (drop d s.now)) }
     ensures { result ≡ stands_at marked f k rest.now p s.now }
 {
     let to = d + k;

@@ -1,6 +1,6 @@
 -- Demand 3, in one page. A message is symbols cut into segments by a layout: a list of lengths, each 2 or more, equal or not. Its written
 -- strand is `strand (cut ks x)` (Layout.antt). A strand s keeps the one-edit conditions for it if `OneEdit (cut ks x) s` (Conditions.antt). It
--- is read by the reading steps as `outcomes ks s` (Reading.antt, Strands.antt). The statements are proved in laws/Demand3.antt, each under its name
+-- is read by the reading steps as `outcomes ks s` (Reading.antt, Strands.antt). The statements are proved in proofs/laws/Demand3.antt, each under its name
 -- in small letters.
 --   Message        symbols that a layout cuts into messages
 --   Regains        what reading a strand has to give

@@ -1,4 +1,4 @@
--- What holds between the editions of a label, in one page. The statements are proved in laws/Editions.antt, each under its name in small letters.
+-- What holds between the editions of a label, in one page. The statements are proved in proofs/laws/Editions.antt, each under its name in small letters.
 --   ReadsAsBefore   a label of edition 1 or 2, or of no known edition, is read as before edition 3
 --   TurnedDown      the reader of that time turns down every label of edition 3 that is taken, with 8
 --   Oldest          a label is written in the oldest edition that carries its order

@@ -1,5 +1,5 @@
 -- What step 10 promises of the segments behind a lost one, in one page. What it tries is `tries` (Strands.antt). The statements are proved in
--- laws/LaterSegments.antt, each under its name in small letters.
+-- proofs/laws/LaterSegments.antt, each under its name in small letters.
 --   LostAt        a step loses a segment of a strand
 --   StandsFirst   a later segment stands clean in its window, and nothing that is tried before it stands
 --   ComesBack     it is read from its start, clean, and reading goes on behind it

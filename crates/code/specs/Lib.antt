@@ -31,4 +31,3 @@ pub mod Quote
 pub mod Ascii
 pub mod Samples
 pub mod Runs
-pub mod laws

@@ -2,7 +2,7 @@
 --   quote_of      the numbers of a quote
 --   quote_call    what a quote answers
 --   Right         what holds of these numbers
---   QuotedRight   it holds of every answer; proved as `quoted_right` in laws/Quote.antt
+--   QuotedRight   it holds of every answer; proved as `quoted_right` in proofs/laws/Quote.antt
 use Rattle.std.specs.Prelude.{◌≡◌, false, List, [], ℕ, ◌*◌, ◌≤◌, length}
 use Rattle.code.specs.declared.Checked.TheVariants.{Fine}
 use Rattle.code.specs.declared.Quote.{Quote}

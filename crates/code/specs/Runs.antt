@@ -1,19 +1,16 @@
 -- Runs of the reading steps on the layout 2, 3, 2, one on 2, 2, 2, 3: each lost step, each j and e, several d, and segments that are passed. The
 -- verdicts, and how many starts are tried, are worked out by hand from SPECIFICATION.md; the working of each is in docs/RUNS.md.
-use Rattle.std.specs.Prelude.{Bool, true, ◌&&◌, List, [], ◌∷◌, map, ℕ, T, eqb}
+use Rattle.std.specs.Prelude.{Bool, true, ◌&&◌, List, [], ◌∷◌, map, ℕ, eqb}
 use Prim.Native.String.{String}
 use Rattle.code.specs.Ascii.{digits}
-use Rattle.code.specs.Symbols.{as_symbols, has_unknown}
-use Rattle.code.specs.Layers.{bits, number, width, syndrome, pair, ones, sum_of_places, sum_from, first_power}
-use Rattle.code.specs.Repair.{flips, lefts, puts, linked, first_with, repair}
-use Rattle.code.specs.Segment.{total, check, sep, syndrome_of, separator, marker, block, segment, last_of, size}
+use Rattle.code.specs.Layers.{syndrome}
+use Rattle.code.specs.Segment.{check, separator, marker, segment}
 use Rattle.code.specs.Layout.{sum}
-use Rattle.code.specs.Edits.{same, first_edit, judged}
-use Rattle.code.specs.Reading.{is_prefix, two_equal, three_equal, separator_at, check_agrees, syndrome_agrees}
-use Rattle.code.specs.Reading.{repaired, message_at, message_without, read_message, clean, end_of, read_segment}
-use Rattle.code.specs.Strands.{above, pairs, tries, first_standing, scan, reading, outcomes, verdicts_of}
+use Rattle.code.specs.Edits.{same}
+use Rattle.code.specs.Reading.{repaired, clean}
+use Rattle.code.specs.Strands.{above, tries, scan, reading, outcomes, verdicts_of}
 use Rattle.code.specs.Verdicts.{verdict_number}
-use Rattle.code.specs.Starts.{up_to_standing, tried_by, starts_tried}
+use Rattle.code.specs.Starts.{starts_tried}
 use Rattle.code.specs.declared.Edit.TheVariants.{None, Sub, Del, Ins}
 use Rattle.code.specs.declared.Verdict.{Verdict}
 use Rattle.code.specs.declared.Verdict.TheVariants.{Read, Unknown, Lost, NoStart}
@@ -142,11 +139,3 @@ runs =
 unfoldable pub every : List Run → Bool
 every [] = true
 every (r ∷ rs) = right r && every rs
-
--- every run gives its verdicts and tries its starts
-pub runs_right : T (every runs)
-unfolding every right bits number width syndrome pair ones sum_of_places sum_from first_power flips lefts puts linked first_with repair total check sep
-    syndrome_of separator marker block segment last_of size same first_edit judged is_prefix two_equal three_equal separator_at check_agrees
-    syndrome_agrees repaired message_at message_without read_message clean end_of read_segment above pairs tries first_standing scan reading as_symbols has_unknown
-    sum up_to_standing tried_by
-runs_right = tt

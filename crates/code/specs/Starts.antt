@@ -1,5 +1,5 @@
 -- How many starts the scans of a reading try, in one page. What a scan tries is `tries` (Strands.antt). The statements are proved in
--- laws/Starts.antt, each under its name in small letters.
+-- proofs/laws/Starts.antt, each under its name in small letters.
 --   up_to_standing   what is tried of a list
 --   tried_behind     what is tried behind a segment
 --   tried_by         the same of each segment of a reading

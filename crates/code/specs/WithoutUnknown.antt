@@ -1,4 +1,4 @@
--- What N leaves alone: letters without an N are read as if there were no such letter. Proved in laws/WithoutUnknown.antt.
+-- What N leaves alone: letters without an N are read as if there were no such letter. Proved in proofs/laws/WithoutUnknown.antt.
 --   WithoutUnknown   the symbols, the clean test, what is said and the whole reading of letters without an N
 --   BaseStands       so it is for all such letters
 use Rattle.std.specs.Prelude.{◌≡◌, true, false, List, ℕ, take, drop}

@@ -1,7 +1,9 @@
 // The enums that the house's answers use. What they mean is said in specs/.
 
+#![tactic(auto)]
+
 // What a byte of a strand is: a letter with its symbol, the letter N, which stands for an unknown one, or no letter.
-#[derive(Drop)]
+#[derive(Clone, Copy)]
 pub enum Letter {
     Symbol(u8),
     Unknown,
@@ -9,14 +11,14 @@ pub enum Letter {
 }
 
 // A strand of letters throughout, and whether an N is among them; or where its first foreign byte stands.
-#[derive(Drop)]
+#[derive(Clone, Copy)]
 pub enum Decoded {
     Whole(bool),
     Foreign(usize),
 }
 
 // How a received word differs from the sent one.
-#[derive(Drop)]
+#[derive(Clone, Copy)]
 pub enum Link {
     Changed,
     More,
@@ -24,14 +26,14 @@ pub enum Link {
 }
 
 // Where a layer is mended and the bit that belongs there, or that no word fits.
-#[derive(Drop)]
+#[derive(Clone, Copy)]
 pub enum Repair {
     At(usize, bool),
     Nothing,
 }
 
 // Why a call is turned down, in the order of the numbers 1 to 9 and 13.
-#[derive(Drop)]
+#[derive(Clone, Copy)]
 pub enum Refusal {
     SegmentLength,
     MessageSize,
@@ -46,35 +48,35 @@ pub enum Refusal {
 }
 
 // The outcome of a test: nothing against it, or why it is turned down.
-#[derive(Drop)]
+#[derive(Clone, Copy)]
 pub enum Checked {
     Fine,
     Refused(Refusal),
 }
 
 // What a writing answers: how many bytes were written to the front of the lent buffer.
-#[derive(Drop)]
+#[derive(Clone, Copy)]
 pub enum Wrote {
     Bytes(usize),
     Refused(Refusal),
 }
 
 // What the reader answers: how many segments are clean, corrected and lost.
-#[derive(Drop)]
+#[derive(Clone, Copy)]
 pub enum Counted {
     Counts(u32, u32, u32),
     Refused(Refusal),
 }
 
 // What locating a piece answers: where it starts and where it ends.
-#[derive(Drop)]
+#[derive(Clone, Copy)]
 pub enum Located {
     At(usize, usize),
     Refused(Refusal),
 }
 
 // What reading a label answers: whether it is taken, B, and the layout, which is the first `count` of `lengths`.
-#[derive(Drop)]
+#[derive(Clone, Copy)]
 pub struct Labelled {
     pub tested: Checked,
     pub b: u32,
@@ -83,7 +85,7 @@ pub struct Labelled {
 }
 
 // How many strands were read, and their segments by mark.
-#[derive(Drop)]
+#[derive(Clone, Copy)]
 pub struct Tally {
     pub strands: u32,
     pub clean: u32,
@@ -92,7 +94,7 @@ pub struct Tally {
 }
 
 // What adding to a tally answers: the tally with the counts added.
-#[derive(Drop)]
+#[derive(Clone, Copy)]
 pub enum Tallied {
     Sum(Tally),
     Refused(Refusal),
@@ -100,7 +102,7 @@ pub enum Tallied {
 
 // What strands of one order take: letters to order and bytes of sheets, both for all of them together; and the most starts that the scans of
 // one reading try.
-#[derive(Drop)]
+#[derive(Clone, Copy)]
 pub struct Quote {
     pub letters: u32,
     pub bytes: u32,
@@ -108,14 +110,14 @@ pub struct Quote {
 }
 
 // What a quote answers.
-#[derive(Drop)]
+#[derive(Clone, Copy)]
 pub enum Quoted {
     Numbers(Quote),
     Refused(Refusal),
 }
 
 // How a piece differs from the segment written anew, with its place and symbol.
-#[derive(Drop)]
+#[derive(Clone, Copy)]
 pub enum Edit {
     None,
     Sub(usize, u8),
@@ -124,7 +126,7 @@ pub enum Edit {
 }
 
 // What is said of a segment: read with an edit; read with none from a piece with an N; lost in a step; lost for want of a start.
-#[derive(Drop)]
+#[derive(Clone, Copy)]
 pub enum Verdict {
     Read(Edit),
     Unknown,
@@ -133,7 +135,7 @@ pub enum Verdict {
 }
 
 // What asking for the verdict of one segment answers; its edit carries the number of the letter, N among the received ones.
-#[derive(Drop)]
+#[derive(Clone, Copy)]
 pub enum Reported {
     Said(Verdict),
     Refused(Refusal),

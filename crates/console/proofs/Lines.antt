@@ -12,11 +12,11 @@ use lib.Dec.{eqb, leb}
 use lib.ListN.{length, take}
 use lib.Seq.{take_at}
 use Rattle.code.specs.Label.{needed}
-use Rattle.code.specs.laws.Label.{needed_most}
+use Rattle.code.proofs.laws.Label.{needed_most}
 use Rattle.text.specs.declared.hex.Hex.TheVariants.{Bytes, Bad}
 use Rattle.text.specs.HexDigit.{no_digit, all_digits}
 use Rattle.text.specs.Hex.{hex_bytes, decode_call}
-use Rattle.text.specs.laws.Hex.{length-hex_bytes, decode_good, decode_bad}
+use Rattle.text.proofs.laws.Hex.{length-hex_bytes, decode_good, decode_bad}
 use Rattle.console.specs.LabelLine.{holds_label, most_label, Held}
 
 -- a last test behind others

@@ -1,4 +1,3 @@
 pub mod Input
 pub mod RefusedLine
 pub mod LabelLine
-pub mod laws

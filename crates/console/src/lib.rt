@@ -1,4 +1,7 @@
 // What the programs share: standard input and output, the label's line, the line for a refusal, and what is said to a wrong use.
+
+#![tactic(auto)]
+
 ghost use Rattle.std.specs.Prelude.{◌≡◌, ◌+◌, ◌≤◌, length};
 ghost use Rattle.text.specs.Put.{Appended};
 ghost use Rattle.console.specs.Input.{Within};
@@ -13,7 +16,7 @@ use text::lines::front;
 use text::put::put;
 
 // What reading standard input answers: the number of bytes that came, or that a read failed.
-#[derive(Drop)]
+#[derive(Clone, Copy)]
 pub enum Input {
     Bytes(usize),
     Failed,

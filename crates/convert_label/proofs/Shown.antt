@@ -15,7 +15,7 @@ use Rattle.code.specs.Conversion.{convert_call}
 use Rattle.text.specs.declared.hex.Hex.TheVariants.{Bytes, Bad}
 use Rattle.text.specs.Lines.{feed, line}
 use Rattle.text.specs.Hex.{hex_digits}
-use Rattle.text.specs.laws.Hex.{length-hex_digits}
+use Rattle.text.proofs.laws.Hex.{length-hex_digits}
 use Rattle.console.specs.LabelLine.{Held}
 use Rattle.console.specs.RefusedLine.{refused_line}
 use Rattle.convert_label.specs.ConvertOutput.{most_converted, shown, convert_text, convert_output}

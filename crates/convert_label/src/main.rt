@@ -1,4 +1,7 @@
 // Reads a line, a label in hexadecimal digits, and prints the label on the other side; or `refused` and the number.
+
+#![tactic(auto)]
+
 ghost use Rattle.std.specs.Prelude.{◌≡◌, ◌≤◌, length, take, replicate};
 ghost use Rattle.code.specs.Conversion.{convert_call};
 ghost use Rattle.text.specs.Put.{Appended};

@@ -12,7 +12,7 @@ use native.Mathlib.Omega.{arith}
 use lib.ListN.{length, get_or, take, drop, set, length-drop, drop_of_length-le}
 use lib.Seq.{take-suc, take-add, get_or-drop, length-take-le}
 use Rattle.code.specs.Buffers.{put_at}
-use Rattle.code.specs.laws.Lists.{put_first, put_nothing, put_one, put_put}
+use Rattle.code.proofs.laws.Lists.{put_first, put_nothing, put_one, put_put}
 
 -- one more symbol of those from place i on
 pub put_next : (s d : List ℕ) (i j n k m : ℕ) → k ≡ i + n → m ≡ j + n → k < length s → m < length d → set (put_at d j (take n (drop i s))) m (get_or s k 0) ≡ put_at d j (take (n + 1) (drop i s))

@@ -1,4 +1,7 @@
 // Blocks of symbols, copied; and zeros.
+
+#![tactic(auto)]
+
 ghost use Rattle.std.specs.Prelude.{◌≡◌, ◌+◌, ◌≤◌, length, take, drop, replicate};
 ghost use Rattle.code.specs.Buffers.{put_at};
 

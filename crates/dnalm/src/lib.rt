@@ -1,6 +1,9 @@
 // The public calls under C names: numbers, structs of numbers and slices alone cross the border. No call asks anything of its caller.
 // In an answer `refusal` is 0 where the call is taken and else the refusal's number; `place` is the first foreign letter's, from 0,
 // where `refusal` is 6, and else 0. The other numbers of a refused call are 0; those of a tally are the old ones.
+
+#![tactic(auto)]
+
 pub mod structs;
 
 ghost use Rattle.std.specs.Prelude.{◌≡◌};
@@ -57,9 +60,7 @@ fn told(wrote: Wrote) -> Written
 // Writes a strand to the front of `out`, as `writer::write` does.
 #[unsafe(no_mangle)]
 pub extern "C" fn dnalm_write(lengths: &[u16], b: u32, message: &[u8], out: &mut [u8]) -> Written
-    ensures* { do
-      let o = order lengths.now b in
-          ⌜ (result, out.new) ≡ answered from_wrote (write_call o message.now out.old) ⌝ }
+    ensures { let o = order lengths.now b in (result, out.new) ≡ answered from_wrote (write_call o message.now out.old) }
 {
     told(writer::write(lengths, b, message, out))
 }
@@ -75,12 +76,10 @@ pub extern "C" fn dnalm_read(
     message: &mut [u8],
     sheet: &mut [u8],
 ) -> Counts
-    ensures* sheet_after { do
-      let call = read_call (order lengths.now b) letters.now message.old sheet.old in
-          ⌜ (result, (message.new, sheet.new)) ≡ answered from_counted call ⌝ }
-    ensures* fact { do
-      let o = order lengths.now b in
-          ⌜ Demand3Counts o letters.now message.old sheet.old (result, (message.new, sheet.new)) ⌝ }
+    ensures exact { let call = read_call (order lengths.now b) letters.now message.old sheet.old in
+        (result, (message.new, sheet.new)) ≡ answered from_counted call }
+    ensures one_edit { let o = order lengths.now b in
+        Demand3Counts o letters.now message.old sheet.old (result, (message.new, sheet.new)) }
 {
     let counted = reader::read(lengths, b, letters, message, sheet);
     match counted {
@@ -104,9 +103,7 @@ pub extern "C" fn dnalm_read(
 // Answers which stretch of `letters` is the piece of a segment, from 1, as `pieces::locate` does.
 #[unsafe(no_mangle)]
 pub extern "C" fn dnalm_piece(lengths: &[u16], b: u32, letters: &[u8], segment: u32) -> Piece
-    ensures* { do
-      let o = order lengths.now b in
-          ⌜ result ≡ from_located (locate_call o letters.now segment) ⌝ }
+    ensures { let o = order lengths.now b in result ≡ from_located (locate_call o letters.now segment) }
 {
     let located = pieces::locate(lengths, b, letters, segment);
     match located {
@@ -128,9 +125,7 @@ pub extern "C" fn dnalm_piece(lengths: &[u16], b: u32, letters: &[u8], segment: 
 // Writes a line for each segment to the front of `out`, as `report::write` does.
 #[unsafe(no_mangle)]
 pub extern "C" fn dnalm_report(lengths: &[u16], b: u32, letters: &[u8], out: &mut [u8]) -> Written
-    ensures* { do
-      let o = order lengths.now b in
-          ⌜ (result, out.new) ≡ answered from_wrote (report_call o letters.now out.old) ⌝ }
+    ensures { let o = order lengths.now b in (result, out.new) ≡ answered from_wrote (report_call o letters.now out.old) }
 {
     told(report::write(lengths, b, letters, out))
 }
@@ -169,9 +164,7 @@ fn verdict_told(v: Verdict) -> Said
 // Answers what happened to a segment, from 1, as `report::verdict` does.
 #[unsafe(no_mangle)]
 pub extern "C" fn dnalm_verdict(lengths: &[u16], b: u32, letters: &[u8], segment: u32) -> Said
-    ensures* { do
-      let o = order lengths.now b in
-          ⌜ result ≡ from_reported (verdict_call o letters.now segment) ⌝ }
+    ensures { let o = order lengths.now b in result ≡ from_reported (verdict_call o letters.now segment) }
 {
     let reported = report::verdict(lengths, b, letters, segment);
     match reported {
@@ -190,9 +183,7 @@ pub extern "C" fn dnalm_verdict(lengths: &[u16], b: u32, letters: &[u8], segment
 // Writes the label of an order to the front of `out`, as `label::write` does.
 #[unsafe(no_mangle)]
 pub extern "C" fn dnalm_write_label(lengths: &[u16], b: u32, out: &mut [u8]) -> Written
-    ensures* { do
-      let o = order lengths.now b in
-          ⌜ (result, out.new) ≡ answered from_wrote (label_call o out.old) ⌝ }
+    ensures { let o = order lengths.now b in (result, out.new) ≡ answered from_wrote (label_call o out.old) }
 {
     told(label::write(lengths, b, out))
 }
@@ -234,9 +225,7 @@ pub extern "C" fn dnalm_read_label(bytes: &[u8]) -> Order
 // Answers what `strands` strands of an order take, as `quote::quote` does.
 #[unsafe(no_mangle)]
 pub extern "C" fn dnalm_quote(lengths: &[u16], b: u32, strands: u16) -> Quoted
-    ensures* { do
-      let o = order lengths.now b in
-          ⌜ result ≡ from_quoted (quote_call o strands) ⌝ }
+    ensures { let o = order lengths.now b in result ≡ from_quoted (quote_call o strands) }
 {
     let quoted = quote::quote(lengths, b, strands);
     match quoted {

@@ -11,10 +11,10 @@ use native.Mathlib.Omega.{arith}
 use lib.ListN.{length, get_or, take, drop, set, length-drop, length-set, take-append-drop}
 use lib.Seq.{take_all, set-get_or, set_split, split_at}
 use Rattle.code.specs.Repair.{put_in, leave_out}
-use Rattle.code.specs.laws.EditedBlock.{length_leave, length_put}
+use Rattle.code.proofs.laws.EditedBlock.{length_leave, length_put}
 use Rattle.code.specs.Edits.{judged}
-use Rattle.code.specs.laws.Judged.{judged_same}
-use Rattle.code.specs.laws.JudgedPlaces.{Misses, judged_missed, judged_sub, judged_del, judged_ins}
+use Rattle.code.proofs.laws.Judged.{judged_same}
+use Rattle.code.proofs.laws.JudgedPlaces.{Misses, judged_missed, judged_sub, judged_del, judged_ins}
 use Rattle.code.specs.Reading.{is_prefix}
 use Rattle.code.specs.declared.Edit.TheVariants.{None, Sub, Del, Ins}
 use Rattle.edits.specs.Judgement.{common, run_start}

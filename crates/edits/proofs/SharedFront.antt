@@ -13,7 +13,7 @@ use lib.Seq.{drop-cons, drop-drop, get_or-take}
 use Rattle.code.specs.Symbols.{Below}
 use Rattle.code.specs.Repair.{leave_out}
 use Rattle.places.specs.Words.{word_of}
-use Rattle.places.specs.laws.Words.{word_place}
+use Rattle.places.proofs.laws.Words.{word_place}
 use Rattle.edits.specs.Judgement.{common, run_start}
 use Rattle.edits.proofs.LeftOut.{leave_next}
 

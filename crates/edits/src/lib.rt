@@ -1,4 +1,7 @@
 // Step 9: a piece against the segment written anew.
+
+#![tactic(auto)]
+
 ghost use Rattle.std.specs.Prelude.{◌≡◌, cond, ◌+◌, ◌<◌, ◌≤◌, length, get_or};
 ghost use Rattle.code.specs.Bounds.{reach};
 ghost use Rattle.code.specs.Edits.{judged};

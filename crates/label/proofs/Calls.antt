@@ -31,11 +31,11 @@ use Rattle.code.specs.Limits.{least_length, most_segments, old_length, old_bytes
 use Rattle.code.specs.Layers.{Word, bits}
 use Rattle.code.specs.Refusals.{refuse, outside, unless_refused}
 use Rattle.code.specs.Order.{Order, order, bad_length, bad_cut, order_test}
-use Rattle.code.specs.laws.Order.{Within, order_then, order_refused}
+use Rattle.code.proofs.laws.Order.{Within, order_then, order_refused}
 use Rattle.code.specs.Label.{answer_to, in_bits, bytes_for, spare, equal, edition1, bytes_bits, length_bits, listing, too_large, old_bits, label_bits, label_bytes, label_write_test, label_call, field, edition_of, length_in, bytes_in1, lists, bytes_in, end_of_lengths, lengths_in, needed, repeated, order_of, bad_end, bad_label, test_in, label_read_test, labelled, label_read, order_in}
 use Rattle.code.specs.Conversion.{other_bits, converted, convert_test, convert_call}
-use Rattle.code.specs.laws.LabelFields.{edition1_number, listing_number}
-use Rattle.code.specs.laws.Label.{bits_equal, Lengths-first, widths, edition_Ordered, Fits-in, order_in_lem}
+use Rattle.code.proofs.laws.LabelFields.{edition1_number, listing_number}
+use Rattle.code.proofs.laws.Label.{bits_equal, Lengths-first, widths, edition_Ordered, Fits-in, order_in_lem}
 use Rattle.label.specs.PutBits.{put_call}
 
 -- an order that is refused

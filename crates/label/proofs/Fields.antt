@@ -13,9 +13,9 @@ use lib.Seq.{drop-drop, get_or-drop, take-append-le, drop-append-le, take_all, t
 use lib.Pow.{shl_exact}
 use Rattle.code.specs.Symbols.{Below}
 use Rattle.code.specs.Layers.{Word, bits, number}
-use Rattle.code.specs.laws.Below.{Below-drop}
+use Rattle.code.proofs.laws.Below.{Below-drop}
 use Rattle.code.specs.Label.{in_bits, from_bits, field}
-use Rattle.code.specs.laws.Bits.{bits_join, number_part, length-in_bits, in_bits-append, drop-in_bits, length-from_bits, get_or-from_bits}
+use Rattle.code.proofs.laws.Bits.{bits_join, number_part, length-in_bits, in_bits-append, drop-in_bits, length-from_bits, get_or-from_bits}
 
 -- two bytes before others; a missing one counts 0
 two_first : (bs : List ℕ) → (rest : List ℕ) × (bs ++ 0 ∷ 0 ∷ [] ≡ get_or bs 0 0 ∷ get_or bs 1 0 ∷ rest)

@@ -17,9 +17,9 @@ use lib.Pow.{shl_lt, shl_exact, pow_mono}
 use lib.Seq.{drop-cons, drop_at}
 use Rattle.code.specs.Symbols.{Below}
 use Rattle.code.specs.Layers.{Word, bits}
-use Rattle.code.specs.laws.Layers.{length-bits}
+use Rattle.code.proofs.laws.Layers.{length-bits}
 use Rattle.code.specs.Label.{in_bits, from_bits, bytes_for, in_bytes}
-use Rattle.code.specs.laws.Bits.{bits_split, bits_low, bits_join, bits_zero, number_front, length-in_bits, in_bits-append, length-from_bits, from_bits_front}
+use Rattle.code.proofs.laws.Bits.{bits_split, bits_low, bits_join, bits_zero, number_front, length-in_bits, in_bits-append, length-from_bits, from_bits_front}
 
 -- how many bytes there are
 pub put_length : (count first w : ℕ) (ls : List ℕ) → length (in_bytes (bits count first ++ in_bits w ls)) ≡ bytes_for (count + w * length ls)

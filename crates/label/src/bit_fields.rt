@@ -20,8 +20,8 @@ pub fn length_at(lengths: &[u16], i: usize) -> u32
 
 // The lowest `count` bits of `first`, and then lengths in `width` bits each, as bytes at the front of `out`: zero bits fill the last.
 pub fn put_bits(first: u32, count: usize, width: usize, lengths: &[u16], out: &mut [u8]) -> Wrote
-    requires count_bound { (count ≤ 32) × (7 ≤ width) × (width ≤ 16) }
-    requires below { Below (2 ^ width) lengths.now × (length lengths.now ≤ most_segments) }
+    requires widths { (count ≤ 32) × (7 ≤ width) × (width ≤ 16) }
+    requires lengths { Below (2 ^ width) lengths.now × (length lengths.now ≤ most_segments) }
     ensures { (result, out.new) ≡ put_call (bits count first ++ in_bits width lengths.now) out.old }
 {
     let n = (count + width * lengths.len() + 7) / 8;

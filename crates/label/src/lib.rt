@@ -1,4 +1,7 @@
 // The label calls: an order in bits, the most significant first, in three editions.
+
+#![tactic(auto)]
+
 mod bit_fields;
 mod editions;
 
@@ -18,7 +21,7 @@ use editions::{bytes_bits, equal, is_misplaced, length_bits, lists, test_in, too
 // Writes an order in an edition that lists its lengths, 2 or 3.
 fn put_listing(edition: u32, lengths: &[u16], b: u32, out: &mut [u8]) -> Wrote
     requires { (L.lists edition ≡ true) × (test_in edition (order lengths.now b) ≡ C.Fine) }
-    ensures* { do let o = order lengths.now b in ⌜ (result, out.new) ≡ put_call (listing edition o) out.old ⌝ }
+    ensures { let o = order lengths.now b in (result, out.new) ≡ put_call (listing edition o) out.old }
 {
     let width = bytes_bits(edition);
     let first = (((edition << width) + b) << 7) + lengths.len() as u32;
@@ -28,7 +31,7 @@ fn put_listing(edition: u32, lengths: &[u16], b: u32, out: &mut [u8]) -> Wrote
 // Writes an order in an old edition: 1 for equal lengths, 2 for others.
 fn put_old(lengths: &[u16], b: u32, out: &mut [u8]) -> Wrote
     requires { test_within old_length old_bytes (order lengths.now b) false C.Fine ≡ C.Fine }
-    ensures* { do let o = order lengths.now b in ⌜ (result, out.new) ≡ put_call (old_bits o) out.old ⌝ }
+    ensures { let o = order lengths.now b in (result, out.new) ≡ put_call (old_bits o) out.old }
 {
     if equal(lengths) {
         let first = (1 << 28) + (length_at(lengths, 0) << 21) + (b << 13);
@@ -46,7 +49,7 @@ fn put_old(lengths: &[u16], b: u32, out: &mut [u8]) -> Wrote
 // not sum to 4B; 5 `out` is shorter than the label.
 // The bytes of `out` behind the label are untouched; a refusal leaves all of `out` as it was.
 pub fn write(lengths: &[u16], b: u32, out: &mut [u8]) -> Wrote
-    ensures* { do let o = order lengths.now b in ⌜ (result, out.new) ≡ label_call o out.old ⌝ }
+    ensures { let o = order lengths.now b in (result, out.new) ≡ label_call o out.old }
 {
     let tested = refusal::order_test(lengths, b, false);
     if let Checked::Refused(r) = tested {
@@ -82,14 +85,14 @@ fn needed(bytes: &[u8]) -> usize
 
 // Whether the bytes are as many as the label that they begin needs. Nothing else of it is tested.
 pub fn is_whole(bytes: &[u8]) -> bool
-    ensures* { do let label = bytes.now in ⌜ result ≡ eqb (length label) (L.needed label) ⌝ }
+    ensures { let label = bytes.now in result ≡ eqb (length label) (L.needed label) }
 {
     3 <= bytes.len() && bytes.len() == needed(bytes)
 }
 
 // A label has fewer bytes than it needs.
 fn is_short(bytes: &[u8]) -> bool
-    ensures* { do let label = bytes.now in ⌜ result ≡ ltb (length label) (L.needed label) ⌝ }
+    ensures { let label = bytes.now in result ≡ ltb (length label) (L.needed label) }
 {
     bytes.len() < 3 || bytes.len() < needed(bytes)
 }
@@ -109,7 +112,7 @@ pub fn refused(r: Refusal) -> Labelled
 // Lengths, and zeros behind them.
 fn filled(lengths: &[u16]) -> [u16; 64]
     requires { length lengths.now ≤ most_segments }
-    ensures* { do let ks = lengths.now in ⌜ result ≡ ks ++ replicate (most_segments - length ks) 0 ⌝ }
+    ensures { let ks = lengths.now in result ≡ ks ++ replicate (most_segments - length ks) 0 }
 {
     let mut a = [0u16; 64];
     let mut i = 0;
@@ -122,7 +125,7 @@ fn filled(lengths: &[u16]) -> [u16; 64]
 
 // The answer to a label of an edition that carries these lengths and B.
 fn answer(edition: u32, lengths: &[u16], b: u32) -> Labelled
-    ensures* { do let o = order lengths.now b in ⌜ result ≡ answer_to (test_in edition o) o ⌝ }
+    ensures { let o = order lengths.now b in result ≡ answer_to (test_in edition o) o }
 {
     let tested = test_in(edition, lengths, b);
     if let Checked::Refused(r) = tested {

@@ -9,8 +9,8 @@ use Prim.Native.Nat.{ℕ, ◌+◌, ◌-◌, ◌*◌, ◌/◌, ◌%◌, ◌≤◌
 use native.Mathlib.Omega.{arith}
 use lib.ListN.{length, take, drop, length-drop}
 use Rattle.code.specs.Layers.{Word, layer, ones, sum_of_places}
-use Rattle.code.specs.laws.Layers.{length-layer}
-use Rattle.code.specs.laws.Lists.{drop_four}
+use Rattle.code.proofs.laws.Layers.{length-layer}
+use Rattle.code.proofs.laws.Lists.{drop_four}
 use Rattle.layers.specs.SideBySide.{half, sides, bit_bytes, halves, column_ones, column_places, Block}
 use Rattle.layers.proofs.Columns.{columns, behind, Columns, Columns-of, columns_fit, behind_fit, column_ones_lem, column_places_lem}
 

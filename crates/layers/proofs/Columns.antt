@@ -11,7 +11,7 @@ use Prim.Native.Nat.{ℕ, zero, suc, ◌+◌, ◌-◌, ◌*◌, ◌/◌, ◌%◌
 use native.Mathlib.Omega.{arith}
 use lib.ListN.{length}
 use Rattle.code.specs.Layers.{Word, digit, ones, sum_of_places, sum_from}
-use Rattle.code.specs.laws.Layers.{sum_cons, digit_below}
+use Rattle.code.proofs.laws.Layers.{sum_cons, digit_below}
 use Rattle.code.specs.Symbols.{Below}
 use Rattle.code.specs.Segment.{total}
 use Rattle.places.specs.Words.{word_of}

@@ -11,7 +11,7 @@ use lib.Pow.{pow_mono}
 use lib.Seq.{take-suc, take-length}
 use Rattle.code.specs.Bounds.{longest, widest}
 use Rattle.code.specs.Layers.{Word, bit, layer, digit, sum_of_places, sum_from, number}
-use Rattle.code.specs.laws.Layers.{length-layer, number_below, sum_le}
+use Rattle.code.proofs.laws.Layers.{length-layer, number_below, sum_le}
 
 from_end : (p : ℕ) (w : Word) (b : Bool) → sum_from p (w ++ b ∷ []) ≡ sum_from p w + cond b (p + length w) 0
 unfolding sum_from

@@ -13,7 +13,7 @@ use lib.Arith.{mod-mul}
 use lib.Dec.{eqb}
 use lib.Bits.{bit_and, bit_or, and_mask, and_block, and_zero_r, or_mod, or_shr, or_zero_l, or_zero_r}
 use Rattle.code.specs.Layers.{bit, layer, digit}
-use Rattle.code.specs.laws.Layers.{digit-bit}
+use Rattle.code.proofs.laws.Layers.{digit-bit}
 use Rattle.places.specs.Words.{word_of}
 use Rattle.layers.specs.SideBySide.{half, bytes_of, bit_bytes, sides}
 

@@ -14,9 +14,9 @@ use lib.ListN.{length, get_or, drop, length-drop}
 use lib.Seq.{drop-cons}
 use Rattle.code.specs.Bounds.{longest}
 use Rattle.code.specs.Layers.{bit, layer, digit, ones, sum_of_places}
-use Rattle.code.specs.laws.Layers.{length-layer, ones-le, sum_before, sum_le}
+use Rattle.code.proofs.laws.Layers.{length-layer, ones-le, sum_before, sum_le}
 use Rattle.code.specs.Segment.{check}
-use Rattle.code.specs.laws.Segment.{check-ones}
+use Rattle.code.proofs.laws.Segment.{check-ones}
 use Rattle.places.specs.Words.{word_of}
 use Rattle.layers.specs.SideBySide.{half, sides, bytes_of, bit_bytes}
 

@@ -7,7 +7,7 @@ use native.Mathlib.Omega.{arith}
 use lib.ListN.{length, get_or, drop, drop_of_length-le}
 use lib.Seq.{drop-cons}
 use Rattle.code.specs.Layers.{bit, layer, digit, ones}
-use Rattle.code.specs.laws.Layers.{layer_at_lem, length-layer}
+use Rattle.code.proofs.laws.Layers.{layer_at_lem, length-layer}
 
 -- a layer from place j on is its bit there and the rest
 layer_step : (s : ℕ) (m : List ℕ) (j : ℕ) → j < length m → drop j (layer s m) ≡ bit s (get_or m j 0) ∷ drop (suc j) (layer s m)

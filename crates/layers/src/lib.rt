@@ -1,4 +1,7 @@
 // The layers of a list of symbols: the number of syndrome symbols, sums of places and syndromes.
+
+#![tactic(auto)]
+
 ghost use Rattle.std.specs.Prelude.{◌≡◌, cond, ◌+◌, ◌-◌, ◌*◌, ◌<◌, ◌≤◌, length, take, drop};
 ghost use Rattle.code.specs.Bounds.{longest, widest};
 ghost use Rattle.code.specs.Layers.{bit, digit, sum_of_places, syndrome, width, number};
@@ -8,21 +11,21 @@ ghost use Rattle.layers.specs.SideBySide.{half, sides, running_of, bytes_of, bit
 use places::words::four_at;
 
 // A number for each layer.
-#[derive(Drop)]
+#[derive(Clone, Copy)]
 pub struct Layers {
     pub high: usize,
     pub low: usize,
 }
 
 // The check of some symbols, and the sum of places of each layer.
-#[derive(Drop)]
+#[derive(Clone, Copy)]
 pub struct Summed {
     pub check: u8,
     pub places: Layers,
 }
 
 // The numbers of ones and the sums of places of both layers, the low layer's in the lower half of each word and the high layer's in the upper.
-#[derive(Drop)]
+#[derive(Clone, Copy)]
 struct Running {
     ones: u64,
     places: u64,

@@ -1,4 +1,3 @@
 pub mod Report
 pub mod Numbers
 pub mod Truth
-pub mod laws

@@ -1,6 +1,6 @@
 -- Every line is true, in one page. A segment starts at a site, and what is reported of it is held against the letters that stand there, in the words
 -- of the reading steps (Reading.antt). Step 9 compares the piece with the segment written anew from the message that was read. N is taken as A. The
--- statements are proved in laws/Truth.antt and laws/Lines.antt, each under its name in small letters.
+-- statements are proved in proofs/laws/Truth.antt and proofs/laws/Lines.antt, each under its name in small letters.
 --   Site            where a segment starts
 --   Lost3           .. Lost9 when a step calls a segment lost, in its own words
 --   Loses, First    a step loses a segment; it is the first that does

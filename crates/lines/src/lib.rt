@@ -1,4 +1,7 @@
 // The lines of a report: the text of a verdict.
+
+#![tactic(auto)]
+
 ghost use Rattle.std.specs.Prelude.{◌≡◌, ◌+◌, ◌≤◌, length};
 ghost use Rattle.code.specs.Symbols.{letter_of};
 ghost use Rattle.text.specs.Put.{Appended};

@@ -13,13 +13,13 @@ use Rattle.code.specs.declared.Link.{Link}
 use Rattle.code.specs.declared.Repair.{Repair}
 use Rattle.code.specs.declared.Repair.TheVariants.{At, Nothing}
 use Rattle.code.specs.Layers.{Word, layer, bits, number, pair, width}
-use Rattle.code.specs.laws.Layers.{length-layer, bits-number, length-pair, pair-Below, pair_layers, layer-pair_high, layer-pair_low}
+use Rattle.code.proofs.laws.Layers.{length-layer, bits-number, length-pair, pair-Below, pair_layers, layer-pair_high, layer-pair_low}
 use Rattle.code.specs.Symbols.{Below}
 use Rattle.code.specs.Segment.{syndrome_of}
 use Rattle.code.specs.Links.{sent}
-use Rattle.code.specs.laws.Links.{linked_length}
+use Rattle.code.proofs.laws.Links.{linked_length}
 use Rattle.code.specs.Repair.{repair, mended, mended_word}
-use Rattle.code.specs.laws.Repair.{repair-Found}
+use Rattle.code.proofs.laws.Repair.{repair-Found}
 use Rattle.code.specs.Reading.{message, both_layers, repaired}
 use Rattle.code.specs.Reading as R
 use Rattle.layers.specs.declared.Layers.{Layers}

@@ -8,9 +8,9 @@ use native.Mathlib.Omega.{arith}
 use lib.ListN.{length, drop, length-drop}
 use lib.Seq.{drop-drop}
 use Rattle.code.specs.Reading.{three_equal, Shift, level, early, late, moved, first_shift, separator_at}
-use Rattle.code.specs.laws.Reading.{at_level, at_early, at_late, at_none}
+use Rattle.code.proofs.laws.Reading.{at_level, at_early, at_late, at_none}
 use Rattle.places.specs.Offsets.{tried_at}
-use Rattle.places.specs.laws.Offsets.{tried_level, tried_early, tried_late}
+use Rattle.places.proofs.laws.Offsets.{tried_level, tried_early, tried_late}
 use Rattle.message.specs.declared.Separator.{Separator}
 use Rattle.message.specs.declared.Separator.TheVariants.{Moved, Missing}
 use Rattle.message.specs.MessageAnswers.{separator_as, shift_of}

@@ -11,7 +11,7 @@ use lib.Seq.{drop-drop, take_all, length-take-le}
 use Rattle.code.specs.Bounds.{longest, widest}
 use Rattle.code.specs.declared.Link.{Link}
 use Rattle.code.specs.Layers.{width}
-use Rattle.code.specs.laws.Layers.{width-Least}
+use Rattle.code.proofs.laws.Layers.{width-Least}
 use Rattle.code.specs.Links.{sent}
 use Rattle.code.specs.Segment.{check}
 use Rattle.code.specs.Reading.{is_prefix, Shift, level, early, late, moved, check_agrees, syndrome_agrees, after_separator, message, repaired, link_of, taken, message_at, message_without}

@@ -1,4 +1,7 @@
 // Steps 2 to 7: the separator, and the message or the step that loses it.
+
+#![tactic(auto)]
+
 ghost use Rattle.std.specs.Prelude.{◌≡◌, ◌+◌, ◌<◌, ◌≤◌, length, take, drop};
 ghost use Rattle.code.specs.Bounds.{longest, widest, reach, Length, Received};
 ghost use Rattle.code.specs.Limits.{most_letters};
@@ -20,14 +23,14 @@ use repair::{Fix, mended_pair, repair_layer};
 use tail::Tail;
 
 // Where the separator stands: moved by one of the offsets 0, −1 and +1, told by its number in that order; or nowhere.
-#[derive(Drop)]
+#[derive(Clone, Copy)]
 pub enum Separator {
     Moved(usize),
     Missing,
 }
 
 // The message is in the lent buffer, with what follows it; or the step that loses it.
-#[derive(Drop)]
+#[derive(Clone, Copy)]
 pub enum MessageResult {
     Message(Tail),
     Lost(u8),
@@ -109,9 +112,9 @@ fn repair_both(
     written: &[u8],
     out: &mut [u8],
 ) -> MessageResult
-    requires length { Length (length out.old) × (length written.now ≡ width (length out.old)) × Below 4 written.now }
-    requires out_len { (length out.old ≡ sent link (length received.now)) × (length received.now ≤ longest + 1) }
-    requires sums_value { sums ≡ both sum_of_places received.now }
+    requires written { Length (length out.old) × (length written.now ≡ width (length out.old)) × Below 4 written.now }
+    requires room { (length out.old ≡ sent link (length received.now)) × (length received.now ≤ longest + 1) }
+    requires sums { sums ≡ both sum_of_places received.now }
     ensures { IsMessageResult (repaired link (length written.now) received.now written.now) out.new result }
 {
     let numbers = layers::numbers(written);
@@ -140,7 +143,7 @@ fn repair_both(
 // The sums of places of the received symbols, from those of the k symbols at d: the same, or of one symbol less or more.
 fn received_sums(s: &[u8], d: usize, k: usize, j: usize, sums: Layers) -> Layers
     requires received { Received s.now × Length k × (j < 3) × (d + k ≤ length s.now) × (d + moved (shift_of j) k ≤ length s.now) }
-    requires sums_value { sums ≡ both sum_of_places (take k (drop d s.now)) }
+    requires sums { sums ≡ both sum_of_places (take k (drop d s.now)) }
     ensures { result ≡ both sum_of_places (take (moved (shift_of j) k) (drop d s.now)) }
 {
     if j == 0 {
@@ -156,8 +159,8 @@ fn received_sums(s: &[u8], d: usize, k: usize, j: usize, sums: Layers) -> Layers
 // Step 7: both layers repaired from the received symbols at d, with the syndrome written after the separator; the k symbols at d are summed.
 fn repair_at(s: &[u8], d: usize, j: usize, sums: Layers, out: &mut [u8]) -> MessageResult
     requires received { Received s.now × Length (length out.old) }
-    requires j_bound { (j < 3) × (d + (moved (shift_of j) (length out.old + 1) + 3) ≤ length s.now) }
-    requires sums_value { sums ≡ both sum_of_places (take (length out.old) (drop d s.now)) }
+    requires inside { (j < 3) × (d + (moved (shift_of j) (length out.old + 1) + 3) ≤ length s.now) }
+    requires sums { sums ≡ both sum_of_places (take (length out.old) (drop d s.now)) }
     ensures { IsMessageResult (repaired_at (shift_of j) (length out.old) (drop d s.now)) out.new result }
 {
     let k = out.len();
@@ -196,8 +199,8 @@ fn at_separator(
     out: &mut [u8],
 ) -> MessageResult
     requires received { Received s.now × Length (length out.old) }
-    requires j_bound { (j < 3) × (d + (moved (shift_of j) (length out.old + 1) + 3) ≤ length s.now) }
-    requires sums_value { sums ≡ both sum_of_places (take (length out.old) (drop d s.now)) }
+    requires inside { (j < 3) × (d + (moved (shift_of j) (length out.old + 1) + 3) ≤ length s.now) }
+    requires sums { sums ≡ both sum_of_places (take (length out.old) (drop d s.now)) }
     requires tail { IsTail (take (length out.old) (drop d s.now)) tail }
     ensures { IsMessageResult (message_at (shift_of j) (length out.old) (drop d s.now)) out.new result }
 {
@@ -210,7 +213,7 @@ fn at_separator(
 // Step 3: the marker is hit; the symbols before the check, which stands before the separator.
 pub fn read_hit(s: &[u8], p: usize, found: Separator, out: &mut [u8]) -> MessageResult
     requires received { Received s.now × Length (length out.old) × (p ≤ length s.now) }
-    requires found_value { found ≡ separator_as (separator_at (length out.old) (drop (p + 2) s.now)) }
+    requires found { found ≡ separator_as (separator_at (length out.old) (drop (p + 2) s.now)) }
     ensures { IsMessageResult (hit_at (length out.old) p s.now) out.new result }
 {
     match found {
@@ -229,8 +232,8 @@ pub fn read_whole(
     out: &mut [u8],
 ) -> MessageResult
     requires received { Received s.now × Length (length out.old) × (d + length out.old ≤ length s.now) }
-    requires found_value { found ≡ separator_as (separator_at (length out.old) (drop d s.now)) }
-    requires sums_value { sums ≡ both sum_of_places (take (length out.old) (drop d s.now)) }
+    requires found { found ≡ separator_as (separator_at (length out.old) (drop d s.now)) }
+    requires sums { sums ≡ both sum_of_places (take (length out.old) (drop d s.now)) }
     requires tail { IsTail (take (length out.old) (drop d s.now)) tail }
     ensures { IsMessageResult (whole_at (length out.old) d s.now) out.new result }
 {

@@ -6,9 +6,9 @@ use mathlib.Core.List.{List, ◌++◌}
 use Prim.Native.Nat.{ℕ, ◌+◌, ◌*◌, ◌<◌}
 use lib.ListN.{length, get_or, take, drop, set}
 use lib.Seq.{drop-cons, take-add}
-use Rattle.code.specs.laws.Lists.{write_next, drop_four}
+use Rattle.code.proofs.laws.Lists.{write_next, drop_four}
 use Rattle.code.specs.Symbols.{symbols_of, byte_of, symbols, bytes}
-use Rattle.code.specs.laws.Symbols.{symbols-drop, bytes-drop}
+use Rattle.code.proofs.laws.Symbols.{symbols-drop, bytes-drop}
 
 -- the symbols of one more byte
 pub symbols_next : (bs : List ℕ) (i : ℕ) → i < length bs → take (4 * i + 4) (symbols bs) ≡ take (4 * i) (symbols bs) ++ symbols_of (get_or bs i 0)

@@ -1,4 +1,7 @@
 // Symbols and bytes, four symbols to a byte.
+
+#![tactic(auto)]
+
 ghost use Rattle.std.specs.Prelude.{◌≡◌, ◌++◌, ◌*◌, ◌/◌, ◌%◌, ◌<◌, ◌≤◌, length, drop};
 ghost use Rattle.code.specs.Symbols.{Below, byte_of, symbols, bytes};
 ghost use Rattle.packing.specs.Words.{word_of, Symbols};
@@ -50,8 +53,8 @@ pub fn unpack(bytes: &[u8], out: &mut [u8])
 
 // The bytes of symbols, four symbols to a byte, at the front of `out`.
 pub fn pack(symbols: &[u8], out: &mut [u8])
-    requires below { Below 4 symbols.now }
-    requires symbols_in_bounds { length symbols.now / 4 ≤ length out.old }
+    requires symbols { Below 4 symbols.now }
+    requires room { length symbols.now / 4 ≤ length out.old }
     ensures { out.new ≡ bytes symbols.now ++ drop (length symbols.now / 4) out.old }
 {
     let n = symbols.len() / 4;

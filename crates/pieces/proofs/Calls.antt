@@ -17,7 +17,7 @@ use Rattle.code.specs.Order.{Order}
 use Rattle.code.specs.Refusals.{unless_refused}
 use Rattle.code.specs.Strands.{outcomes}
 use Rattle.code.specs.ReadCall.{piece_test, outcomes_of, piece_start, piece_length, piece_of, located_as, locate_call}
-use Rattle.code.specs.laws.ReadCall.{piece_Taken, piece_inside}
+use Rattle.code.proofs.laws.ReadCall.{piece_Taken, piece_inside}
 
 -- what locating the piece of segment i answers, s being the letters as numbers
 pub located_is : (o : Order) (cs s : List ℕ) (i : ℕ) (r : Located) → s ≡ legible cs → piece_test o cs i ≡ Fine → r ≡ located_as (outcomes o.lengths s) (i - 1) → r ≡ locate_call o cs i

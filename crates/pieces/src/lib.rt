@@ -1,4 +1,7 @@
 // The piece calls.
+
+#![tactic(auto)]
+
 ghost use Rattle.std.specs.Prelude.{◌≡◌, ◌*◌, ◌<◌, ◌≤◌, length};
 ghost use Rattle.code.specs.Symbols.{has_unknown};
 ghost use Rattle.code.specs.Limits.{most_letters};
@@ -21,7 +24,7 @@ fn span_of(
     symbols: &mut [u8],
     i: usize,
 ) -> Located
-    requires letters_len_bound { (length letters.now ≤ most_letters) × (unknown ≡ has_unknown letters.now) × (4 * b ≤ length symbols.old) }
+    requires received { (length letters.now ≤ most_letters) × (unknown ≡ has_unknown letters.now) × (4 * b ≤ length symbols.old) }
     requires taken { Taken (order lengths.now b) × (i < length lengths.now) }
     ensures { result ≡ located_as (outcomes lengths.now letters.now) i }
 {
@@ -50,7 +53,7 @@ fn locate_lent(
     segment: u32,
 ) -> Located
     requires { Room b letters.now legible.old symbols.old }
-    ensures* { do let o = order lengths.now b in ⌜ result ≡ locate_call o letters.now segment ⌝ }
+    ensures { let o = order lengths.now b in result ≡ locate_call o letters.now segment }
 {
     let received = received_test(lengths, b, letters.len());
     if let Checked::Refused(r) = received {
@@ -74,7 +77,7 @@ fn locate_lent(
 // and not a part.
 // Turned down, in this order: 1 to 4 and 6 as for a reading; 9 there is no such segment.
 pub fn locate(lengths: &[u16], b: u32, letters: &[u8], segment: u32) -> Located
-    ensures* { do let o = order lengths.now b in ⌜ result ≡ locate_call o letters.now segment ⌝ }
+    ensures { let o = order lengths.now b in result ≡ locate_call o letters.now segment }
 {
     if letters.len() <= SHORT_LETTERS && b <= SHORT_BYTES {
         let mut legible = [0u8; 1280];
@@ -98,9 +101,7 @@ pub fn piece<'a>(
     number: &mut u8,
     place: &mut usize,
 ) -> &'a [u8]
-    ensures* { do
-      let o = order lengths.now b in
-          ⌜ (result.now, (number.new, place.new)) ≡ piece_call o letters.now segment ⌝ }
+    ensures { let o = order lengths.now b in (result.now, (number.new, place.new)) ≡ piece_call o letters.now segment }
 {
     let located = locate(lengths, b, letters, segment);
     match located {

@@ -8,7 +8,7 @@ use mir.Syntax.{w8}
 use mir.Val.{Fits}
 use Rattle.code.specs.Symbols.{Below}
 use Rattle.places.specs.Words.{word_of}
-use Rattle.places.specs.laws.Words.{word_next}
+use Rattle.places.proofs.laws.Words.{word_next}
 
 -- what is known of each entry of a slice of bytes
 pub bytes_Below : (l : List ℕ) → ((i : ℕ) → Fits w8 (get_or l i 0)) → Below 256 l

@@ -1,3 +1,4 @@
+pub mod laws
 pub mod TestsAtPlaces
 pub mod SignedOffsets
 pub mod Bytes

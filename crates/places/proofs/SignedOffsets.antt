@@ -12,7 +12,7 @@ use mir.Val.{Fits, SFits, to_z, of_z}
 use mir.Facts.{to_z-of_z, to_z_pos}
 use Rattle.code.specs.Bounds.{reach}
 use Rattle.places.specs.Offsets.{offset_of, tried_at}
-use Rattle.places.specs.laws.Offsets.{tried_small}
+use Rattle.places.proofs.laws.Offsets.{tried_small}
 
 below_minus_one : (n : ℕ) → negsuc 0 -ℤ pos n ≡ negsuc n
 below_minus_one zero = refl

@@ -10,10 +10,10 @@ use lib.Dec.{eqb}
 use lib.ListN.{length, get_or, take, drop, length-drop, drop_of_length-le}
 use lib.Seq.{drop-cons, drop-drop, take-append-le}
 use Rattle.code.specs.Reading.{is_prefix, two_equal, three_equal}
-use Rattle.code.specs.laws.Reading.{and-true, and-false, prefix_self, prefix_is, prefix_split}
+use Rattle.code.proofs.laws.Reading.{and-true, and-false, prefix_self, prefix_is, prefix_split}
 use Rattle.code.specs.Symbols.{Below}
 use Rattle.places.specs.Words.{word_of}
-use Rattle.places.specs.laws.Words.{word_place}
+use Rattle.places.proofs.laws.Words.{word_place}
 
 -- a list that is too short passes no test
 

@@ -1,4 +1,7 @@
 // The quoting call: what strands of one order take, without making them.
+
+#![tactic(auto)]
+
 ghost use Rattle.std.specs.Prelude.{◌≡◌, ◌≤◌, length};
 ghost use Rattle.code.specs.Limits.{most_length, most_segments};
 ghost use Rattle.code.specs.Layout.{Lengths};
@@ -32,7 +35,7 @@ fn most_starts(lengths: &[u16]) -> usize
 // and the most starts that the scans of one reading try, past the strand's end too, each anew for every segment sought there.
 // Turned down, in this order: 1 a length is not 2 to 256; 2 B is not 1 to 512; 3 there are no lengths or more than 64, or they do not sum to 4B.
 pub fn quote(lengths: &[u16], b: u32, strands: u16) -> Quoted
-    ensures* { do let o = order lengths.now b in ⌜ result ≡ quote_call o strands ⌝ }
+    ensures { let o = order lengths.now b in result ≡ quote_call o strands }
 {
     let tested = refusal::order_test(lengths, b, false);
     if let Checked::Refused(r) = tested {

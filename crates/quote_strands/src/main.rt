@@ -1,4 +1,7 @@
 // Reads two lines, a label and a number of strands in decimal digits, and prints what they take; or `refused` and the number.
+
+#![tactic(auto)]
+
 ghost use Rattle.std.specs.Prelude.{◌≡◌, ◌≤◌, length, take};
 ghost use Rattle.code.specs.Order.{order};
 ghost use Rattle.code.specs.Quote.{quote_call};
@@ -13,9 +16,7 @@ use text::lines::{behind, front, line};
 // What so many strands of an order take, at the front of `out`; the answer is where it ends.
 fn put_quote(out: &mut [u8], lengths: &[u16], b: u32, strands: u16) -> usize
     requires { output_room ≤ length out.old }
-    ensures* { do
-      let o = order lengths.now b in
-          ⌜ Appended out.old 0 (shown (quote_call o strands)) out.new result ⌝ }
+    ensures { let o = order lengths.now b in Appended out.old 0 (shown (quote_call o strands)) out.new result }
 {
     match quote::quote(lengths, b, strands) {
         Quoted::Numbers(q) => put_three(
@@ -35,9 +36,7 @@ fn put_quote(out: &mut [u8], lengths: &[u16], b: u32, strands: u16) -> usize
 // The same for the line that holds the number of strands, or refused 2.
 fn put_strands(out: &mut [u8], lengths: &[u16], b: u32, digits: &[u8]) -> usize
     requires { output_room ≤ length out.old }
-    ensures* { do
-      let o = order lengths.now b in
-          ⌜ Appended out.old 0 (quote_text o digits.now) out.new result ⌝ }
+    ensures { let o = order lengths.now b in Appended out.old 0 (quote_text o digits.now) out.new result }
 {
     match text::decimal::number_of(digits) {
         Number::Of(n) => put_quote(out, lengths, b, n),

@@ -17,7 +17,7 @@ use Rattle.code.specs.ReadCall.{read_call}
 use Rattle.text.specs.Lines.{feed}
 use Rattle.text.specs.Hex.{hex_digits}
 use Rattle.text.specs.Decimal.{three_named}
-use Rattle.text.specs.laws.Hex.{length-hex_digits}
+use Rattle.text.proofs.laws.Hex.{length-hex_digits}
 use Rattle.console.specs.RefusedLine.{refused_line}
 use Rattle.read_strand.specs.ReadOutput.{counts_line, shown, read_text}
 

@@ -1,4 +1,7 @@
 // Reads two lines, a label and a strand, and prints the message in hexadecimal digits and the counts; or `refused` and the number.
+
+#![tactic(auto)]
+
 ghost use Rattle.std.specs.Prelude.{◌≡◌, ◌≤◌, length, take};
 ghost use Rattle.code.specs.Order.{order};
 ghost use Rattle.text.specs.Put.{Appended};
@@ -14,9 +17,7 @@ use text::put::put;
 // What letters are read as, for an order, at the front of `out`; the answer is where it ends.
 fn put_reading(out: &mut [u8], lengths: &[u16], b: u32, letters: &[u8]) -> usize
     requires { output_room ≤ length out.old }
-    ensures* { do
-      let o = order lengths.now b in
-          ⌜ Appended out.old 0 (read_text o letters.now) out.new result ⌝ }
+    ensures { let o = order lengths.now b in Appended out.old 0 (read_text o letters.now) out.new result }
 {
     let mut message = [0u8; 512];
     let mut sheet = [0u8; 16];

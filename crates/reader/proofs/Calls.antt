@@ -13,12 +13,12 @@ use Rattle.code.specs.declared.Checked.TheVariants.{Fine}
 use Rattle.code.specs.declared.Counted.{Counted}
 use Rattle.code.specs.Symbols.{legible}
 use Rattle.code.specs.Order.{Order}
-use Rattle.code.specs.laws.Refusals.{or-false}
+use Rattle.code.proofs.laws.Refusals.{or-false}
 use Rattle.code.specs.Strands.{outcomes}
 use Rattle.code.specs.Sheet.{sheet_bytes}
 use Rattle.code.specs.ReadCall.{short_buffers, read_test, read_as, read_call}
 use Rattle.code.specs.ReadDemand.{Demand3Call}
-use Rattle.code.specs.laws.ReadDemand.{demand_3_call}
+use Rattle.code.proofs.laws.ReadDemand.{demand_3_call}
 
 -- buffers that are not too short
 pub room : (o : Order) (n m : ℕ) → short_buffers o n m ≡ false → (o.b ≤ n) × (sheet_bytes (length o.lengths) ≤ m)

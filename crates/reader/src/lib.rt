@@ -1,4 +1,7 @@
 // The reading call.
+
+#![tactic(auto)]
+
 ghost use Rattle.std.specs.Prelude.{◌≡◌, false, ◌*◌, ◌≤◌, length};
 ghost use Rattle.code.specs.Symbols.{has_unknown};
 ghost use Rattle.code.specs.Limits.{most_letters};
@@ -23,12 +26,11 @@ fn read_letters(
     message: &mut [u8],
     sheet: &mut [u8],
 ) -> Counted
-    requires letters_len_bound { (length letters.now ≤ most_letters) × (unknown ≡ has_unknown letters.now) × (4 * b ≤ length symbols.old) }
+    requires received { (length letters.now ≤ most_letters) × (unknown ≡ has_unknown letters.now) × (4 * b ≤ length symbols.old) }
     requires taken { Taken (order lengths.now b) }
-    requires sheet_value { short_buffers (order lengths.now b) (length message.old) (length sheet.old) ≡ false }
-    ensures* { do
-      let os = outcomes lengths.now letters.now in
-          ⌜ (result, (message.new, sheet.new)) ≡ read_as os message.old sheet.old ⌝ }
+    requires buffers { short_buffers (order lengths.now b) (length message.old) (length sheet.old) ≡ false }
+    ensures { let os = outcomes lengths.now letters.now in
+        (result, (message.new, sheet.new)) ≡ read_as os message.old sheet.old }
 {
     let mut verdicts = [0u32; 64];
     let mut ends = [0u16; 64];
@@ -60,9 +62,8 @@ fn read_lent(
     sheet: &mut [u8],
 ) -> Counted
     requires { Room b letters.now legible.old symbols.old }
-    ensures* { do
-      let o = order lengths.now b in
-          ⌜ (result, (message.new, sheet.new)) ≡ read_call o letters.now message.old sheet.old ⌝ }
+    ensures { let o = order lengths.now b in
+        (result, (message.new, sheet.new)) ≡ read_call o letters.now message.old sheet.old }
 {
     let received = received_test(lengths, b, letters.len());
     if let Checked::Refused(r) = received {
@@ -97,12 +98,10 @@ pub fn read(
     message: &mut [u8],
     sheet: &mut [u8],
 ) -> Counted
-    ensures* sheet_after { do
-      let o = order lengths.now b in
-          ⌜ (result, (message.new, sheet.new)) ≡ read_call o letters.now message.old sheet.old ⌝ }
-    ensures* fact { do
-      let o = order lengths.now b in
-          ⌜ Demand3Call o letters.now message.old sheet.old (result, (message.new, sheet.new)) ⌝ }
+    ensures exact { let o = order lengths.now b in
+        (result, (message.new, sheet.new)) ≡ read_call o letters.now message.old sheet.old }
+    ensures one_edit { let o = order lengths.now b in
+        Demand3Call o letters.now message.old sheet.old (result, (message.new, sheet.new)) }
 {
     if letters.len() <= SHORT_LETTERS && b <= SHORT_BYTES {
         let mut legible = [0u8; 1280];

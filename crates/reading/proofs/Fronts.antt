@@ -16,17 +16,17 @@ use native.Mathlib.Omega.{arith}
 use lib.ListN.{length, take, drop, replicate, length-append, length-map}
 use lib.Seq.{take_at, length-take-le}
 use Rattle.code.specs.Symbols.{Below, as_symbols, has_unknown}
-use Rattle.code.specs.laws.Letters.{length_as, as_Below, as_known}
+use Rattle.code.proofs.laws.Letters.{length_as, as_Below, as_known}
 use Rattle.code.specs.Limits.{most_letters}
 use Rattle.code.specs.Bounds.{Received}
 use Rattle.code.specs.Order.{Order, Taken}
-use Rattle.code.specs.laws.Order.{order_fine}
+use Rattle.code.proofs.laws.Order.{order_fine}
 use Rattle.code.specs.Sheet.{marks_of}
 use Rattle.code.specs.Strands.{Outcome, outcomes, messages_of, verdicts_of}
 use Rattle.code.specs.Verdicts.{verdict_number}
 use Rattle.code.specs.Buffers.{over_front}
-use Rattle.code.specs.laws.Strands.{length-outcomes}
-use Rattle.code.specs.laws.MessageLengths.{length_messages}
+use Rattle.code.proofs.laws.Strands.{length-outcomes}
+use Rattle.code.proofs.laws.MessageLengths.{length_messages}
 use Rattle.reading.specs.Walks.{ends_from}
 
 -- the first n entries of the array a are y

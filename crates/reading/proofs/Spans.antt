@@ -11,7 +11,7 @@ use native.Mathlib.Omega.{arith}
 use lib.ListN.{length, get_or, drop, replicate, length-append, length-drop, get_or-append}
 use Rattle.code.specs.Layout.{sum, joined}
 use Rattle.code.specs.Strands.{Outcome, outcomes}
-use Rattle.code.specs.laws.Strands.{length-outcomes, joined_pieces}
+use Rattle.code.proofs.laws.Strands.{length-outcomes, joined_pieces}
 use Rattle.code.specs.ReadCall.{pieces_of, piece_start, piece_length}
 use Rattle.reading.specs.Walks.{ends_from, start_in}
 use Rattle.reading.proofs.Fronts.{length_ends}

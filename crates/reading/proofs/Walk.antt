@@ -19,22 +19,22 @@ use lib.Dec.{eqb}
 use lib.ListN.{length, take, drop, set, length-drop, length-set}
 use lib.Seq.{drop-drop, take_all, take-suc-set, length-take-le}
 use Rattle.code.specs.Buffers.{put_at}
-use Rattle.code.specs.laws.Lists.{take_put, length_put}
+use Rattle.code.proofs.laws.Lists.{take_put, length_put}
 use Rattle.code.specs.Limits.{least_length}
 use Rattle.code.specs.Bounds.{longest, Length, Received}
 use Rattle.code.specs.Layout.{sum, Lengths, more, joined}
 use Rattle.code.specs.Symbols.{as_symbols, has_unknown}
-use Rattle.code.specs.laws.Letters.{as_length, has_take, has_drop}
+use Rattle.code.proofs.laws.Letters.{as_length, has_take, has_drop}
 use Rattle.code.specs.declared.Verdict.{Verdict}
 use Rattle.code.specs.Strands.{told, Outcome, reading, outcomes, messages_of, verdicts_of}
 use Rattle.code.specs.Verdicts.{verdict_number, verdict_of, Numbered}
-use Rattle.code.specs.laws.Verdicts.{verdict_back}
+use Rattle.code.proofs.laws.Verdicts.{verdict_back}
 use Rattle.scan.specs.declared.Next.{Next}
 use Rattle.scan.specs.declared.Next.TheVariants.{At, Clean, Nowhere}
 use Rattle.scan.specs.Scans.{Ahead, start_of, next_place, Known}
 use Rattle.steps.specs.declared.Answer.{Answer}
 use Rattle.steps.specs.Steps.{Step, step_of, going, Marked, IsStep}
-use Rattle.steps.specs.laws.Steps.{going_step, step_length, step_end, step_piece, step_Numbered, start_place, place_start, place_inside}
+use Rattle.steps.proofs.laws.Steps.{going_step, step_length, step_end, step_piece, step_Numbered, start_place, place_start, place_inside}
 use Rattle.reading.specs.Walks.{ends_from, Walked}
 use Rattle.reading.proofs.Said.{untold_Numbered}
 

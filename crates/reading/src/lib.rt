@@ -1,4 +1,7 @@
 // The walk over the segments of a layout, from the left.
+
+#![tactic(auto)]
+
 ghost use Rattle.std.specs.Prelude.{◌≡◌, true, false, ◌*◌, ◌≤◌, length};
 ghost use Rattle.code.specs.Symbols.{as_symbols, has_unknown};
 ghost use Rattle.code.specs.Limits.{most_letters};
@@ -17,8 +20,8 @@ use symbols::{SHORT_LETTERS, as_symbols, has_unknown};
 // The number of what is said of a segment by its piece: no edit becomes unknown where an N is among its letters. Pieces of a strand without N are
 // not looked at.
 fn said_of(number: u32, piece: &[u8], unknown: bool) -> u32
-    requires number_value { number ≡ verdict_number (verdict_of number) }
-    requires piece_value { unknown ≡ false → has_unknown piece.now ≡ false }
+    requires number { number ≡ verdict_number (verdict_of number) }
+    requires unknown { unknown ≡ false → has_unknown piece.now ≡ false }
     ensures { result ≡ verdict_number (told (verdict_of number) piece.now) }
 {
     if !unknown {
@@ -77,8 +80,8 @@ fn read_beside(
     verdicts: &mut [u32],
     ends: &mut [u16],
 )
-    requires letters_len_bound { (length letters.now ≤ most_letters) × Lengths longest lengths.now × (true ≡ has_unknown letters.now) }
-    requires letters_in_bounds { (length letters.now ≤ length s.old) × Lent lengths.now symbols.old verdicts.old ends.old }
+    requires received { (length letters.now ≤ most_letters) × Lengths longest lengths.now × (true ≡ has_unknown letters.now) }
+    requires lent { (length letters.now ≤ length s.old) × Lent lengths.now symbols.old verdicts.old ends.old }
     ensures { Walked lengths.now letters.now symbols.new verdicts.new ends.new }
 {
     as_symbols(letters, s);
@@ -94,7 +97,7 @@ fn read_unknown(
     verdicts: &mut [u32],
     ends: &mut [u16],
 )
-    requires letters_len_bound { (length letters.now ≤ most_letters) × Lengths longest lengths.now × (true ≡ has_unknown letters.now) }
+    requires received { (length letters.now ≤ most_letters) × Lengths longest lengths.now × (true ≡ has_unknown letters.now) }
     requires lent { Lent lengths.now symbols.old verdicts.old ends.old }
     ensures { Walked lengths.now letters.now symbols.new verdicts.new ends.new }
 {
@@ -117,7 +120,7 @@ pub fn read_layout(
     verdicts: &mut [u32],
     ends: &mut [u16],
 )
-    requires letters_len_bound { (length letters.now ≤ most_letters) × Lengths longest lengths.now × (unknown ≡ has_unknown letters.now) }
+    requires received { (length letters.now ≤ most_letters) × Lengths longest lengths.now × (unknown ≡ has_unknown letters.now) }
     requires lent { Lent lengths.now symbols.old verdicts.old ends.old }
     ensures { Walked lengths.now letters.now symbols.new verdicts.new ends.new }
 {
@@ -138,7 +141,7 @@ pub fn read_order(
     verdicts: &mut [u32],
     ends: &mut [u16],
 )
-    requires letters_len_bound { (length letters.now ≤ most_letters) × (unknown ≡ has_unknown letters.now) × (4 * b ≤ length symbols.old) }
+    requires received { (length letters.now ≤ most_letters) × (unknown ≡ has_unknown letters.now) × (4 * b ≤ length symbols.old) }
     requires taken { Taken (order lengths.now b) × (length verdicts.old ≡ length lengths.now) × (length ends.old ≡ length lengths.now) }
     ensures { Found lengths.now letters.now verdicts.new ends.new }
 {

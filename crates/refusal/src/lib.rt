@@ -1,4 +1,7 @@
 // The tests of an order and of what is received, and what a refusal is in numbers.
+
+#![tactic(auto)]
+
 pub mod limits;
 
 ghost use Rattle.std.specs.Prelude.{◌≡◌, ◌||◌, ◌≤◌, length};
@@ -74,7 +77,7 @@ fn bad_cut(lengths: &[u16], b: u32) -> bool
 // The tests 1, 2 and 3 of an order, where a length is at most `long` and B at most `many`, and `other` says that the message's length is not B.
 pub fn test_within(long: u16, many: usize, lengths: &[u16], b: u32, other: bool) -> Checked
     requires { (long ≤ most_length) × (many ≤ most_bytes) }
-    ensures* { do let o = order lengths.now b in ⌜ result ≡ test_within long many o other Fine ⌝ }
+    ensures { let o = order lengths.now b in result ≡ test_within long many o other Fine }
 {
     if bad_length(lengths, long) {
         return Checked::Refused(Refusal::SegmentLength);
@@ -90,14 +93,14 @@ pub fn test_within(long: u16, many: usize, lengths: &[u16], b: u32, other: bool)
 
 // The tests 1, 2 and 3 of the calls.
 pub fn order_test(lengths: &[u16], b: u32, other: bool) -> Checked
-    ensures* { do let o = order lengths.now b in ⌜ result ≡ order_test o other Fine ⌝ }
+    ensures { let o = order lengths.now b in result ≡ order_test o other Fine }
 {
     test_within(MOST_LENGTH, MOST_BYTES, lengths, b, other)
 }
 
 // The tests 1 to 4 of n letters received for an order.
 pub fn received_test(lengths: &[u16], b: u32, n: usize) -> Checked
-    ensures* { do let o = order lengths.now b in ⌜ result ≡ received_test o n Fine ⌝ }
+    ensures { let o = order lengths.now b in result ≡ received_test o n Fine }
 {
     let tested = order_test(lengths, b, false);
     if let Checked::Refused(r) = tested {
@@ -112,7 +115,7 @@ pub fn received_test(lengths: &[u16], b: u32, n: usize) -> Checked
 // A message buffer of n bytes or a sheet buffer of m bytes is too short for an order.
 pub fn short_buffers(lengths: &[u16], b: u32, n: usize, m: usize) -> bool
     requires { length lengths.now ≤ most_segments }
-    ensures* { do let o = order lengths.now b in ⌜ result ≡ short_buffers o n m ⌝ }
+    ensures { let o = order lengths.now b in result ≡ short_buffers o n m }
 {
     n < b as usize || m < sheet::sheet_bytes(lengths.len())
 }

@@ -13,7 +13,7 @@ use mir.Val.{bool_byte}
 use Rattle.code.specs.declared.Link.{Link}
 use Rattle.code.specs.declared.Link.TheVariants.{Changed, More, Less}
 use Rattle.code.specs.Layers.{Word, digit, pair}
-use Rattle.code.specs.laws.Layers.{digit_below}
+use Rattle.code.proofs.laws.Layers.{digit_below}
 use Rattle.code.specs.Links.{sent}
 use Rattle.code.specs.Repair.{put_in, leave_out, mended_word}
 use Rattle.repair.specs.LayerRepair.{past_all}

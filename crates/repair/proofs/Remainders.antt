@@ -3,7 +3,7 @@ use mathlib.Core.Path.{◌≡◌, sym, ap, ◌∙◌}
 use Prim.Native.Nat.{ℕ, ◌+◌, ◌-◌, ◌%◌, ◌<◌}
 use native.Mathlib.Nat.{mod-lt, mod-add-mod, add-mod-mod, mod-mod, add-mod_right}
 use native.Mathlib.Omega.{arith}
-use Rattle.code.specs.laws.Levenshtein.{near}
+use Rattle.code.proofs.laws.Levenshtein.{near}
 use Rattle.repair.specs.LayerRepair.{ahead}
 
 -- d is below m and leads from a to b modulo m

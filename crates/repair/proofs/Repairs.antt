@@ -9,12 +9,12 @@ use lib.Seq.{set_out}
 use Rattle.code.specs.declared.Link.TheVariants.{Changed, More, Less}
 use Rattle.code.specs.declared.Repair.TheVariants.{At, Nothing}
 use Rattle.code.specs.Layers.{Word, ones, sum_of_places, syndrome}
-use Rattle.code.specs.laws.Layers.{ones-le}
+use Rattle.code.proofs.laws.Layers.{ones-le}
 use Rattle.code.specs.Links.{Linked, same, changed, more, less, Without, Change}
-use Rattle.code.specs.laws.Links.{without_length, change_length, raised_sum, lowered_sum, change_Place}
+use Rattle.code.proofs.laws.Links.{without_length, change_length, raised_sum, lowered_sum, change_Place}
 use Rattle.code.specs.Repair.{repair, mended, put_in, leave_out}
-use Rattle.code.specs.laws.Repair.{repair_is, repair_nothing}
-use Rattle.code.specs.laws.LinkedPlaces.{put_Without, put_sum, put_place, left_Without, left_sum, left_place, set_change, change_set}
+use Rattle.code.proofs.laws.Repair.{repair_is, repair_nothing}
+use Rattle.code.proofs.laws.LinkedPlaces.{put_Without, put_sum, put_place, left_Without, left_sum, left_place, set_change, change_set}
 use Rattle.repair.proofs.Remainders.{Ahead, ahead_is, Ahead-only, mod_cancel}
 use Rattle.repair.specs.LayerRepair.{ahead}
 

@@ -21,10 +21,10 @@ use lib.Seq.{take_all, take-suc, take-add, take-suc-set, get_or-take, get_or-dro
 use Rattle.code.specs.declared.Link.{Link}
 use Rattle.code.specs.declared.Link.TheVariants.{Changed, More, Less}
 use Rattle.code.specs.Layers.{Word, layer, digit, pair}
-use Rattle.code.specs.laws.Layers.{digit-bit, length-layer, layer_at_lem, length-pair}
+use Rattle.code.proofs.laws.Layers.{digit-bit, length-layer, layer_at_lem, length-pair}
 use Rattle.code.specs.Links.{sent}
 use Rattle.code.specs.Buffers.{put_at}
-use Rattle.code.specs.laws.Lists.{put_one, take_put, length_put}
+use Rattle.code.proofs.laws.Lists.{put_one, take_put, length_put}
 use Rattle.code.specs.Repair.{mended_word}
 use Rattle.repair.specs.declared.Fix.{Fix}
 use Rattle.repair.specs.LayerRepair.{lowest, past_all, mended_layer}

@@ -9,7 +9,7 @@ use native.Mathlib.Numerals.{add-one}
 use native.Mathlib.Omega.{arith}
 use lib.ListN.{length, get_or, drop, length-drop}
 use Rattle.code.specs.Layers.{Word, bit, layer, digit, ones}
-use Rattle.code.specs.laws.Layers.{layer_at_lem, length-layer, ones-le}
+use Rattle.code.proofs.laws.Layers.{layer_at_lem, length-layer, ones-le}
 use Rattle.layers.proofs.Ones.{ones_step, no_ones}
 
 -- a symbol's bit as the layer has it

@@ -1,4 +1,7 @@
 // The repair of one layer, and the symbols of two mended layers.
+
+#![tactic(auto)]
+
 ghost use Rattle.std.specs.Prelude.{◌≡◌, ◌+◌, ◌-◌, ◌*◌, ◌<◌, ◌≤◌, min, max, false, length, get_or};
 ghost use Rattle.code.specs.Bounds.{longest, Length};
 ghost use Rattle.code.specs.Buffers.{put_at};
@@ -163,7 +166,7 @@ fn mended_digit(link: Link, symbols: &[u8], shift: u8, at: usize, bit: bool, i: 
 }
 
 // Where a layer is mended, and the bit that belongs there.
-#[derive(Drop)]
+#[derive(Clone, Copy)]
 pub struct Fix {
     pub at: usize,
     pub bit: bool,
@@ -219,9 +222,9 @@ fn past(link: Link, symbols: &[u8], at: usize) -> usize
 
 // The symbols whose layers are the two mended ones, in `out`: received ones before the first mended place and behind the last.
 pub fn mended_pair(link: Link, symbols: &[u8], high: Fix, low: Fix, out: &mut [u8])
-    requires out_len { length out.old ≡ sent link (length symbols.now) }
-    requires high_len { length (mended_layer link 1 symbols.now high) ≡ length out.old }
-    requires low_len { length (mended_layer link 0 symbols.now low) ≡ length out.old }
+    requires room { length out.old ≡ sent link (length symbols.now) }
+    requires high_fits { length (mended_layer link 1 symbols.now high) ≡ length out.old }
+    requires low_fits { length (mended_layer link 0 symbols.now low) ≡ length out.old }
     ensures { out.new ≡ pair (mended_layer link 1 symbols.now high) (mended_layer link 0 symbols.now low) }
 {
     let n = symbols.len();

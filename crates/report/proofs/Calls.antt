@@ -20,10 +20,10 @@ use Rattle.code.specs.Symbols.{legible, decoded}
 use Rattle.code.specs.Refusals.{refuse}
 use Rattle.code.specs.Order.{Order}
 use Rattle.code.specs.Buffers.{put_at}
-use Rattle.code.specs.laws.Lists.{put_first}
+use Rattle.code.proofs.laws.Lists.{put_first}
 use Rattle.code.specs.Strands.{outcomes}
 use Rattle.code.specs.ReadCall.{received_test, piece_test}
-use Rattle.code.specs.laws.ReadCall.{received_then}
+use Rattle.code.proofs.laws.ReadCall.{received_then}
 use Rattle.lines.specs.Report.{lines_of}
 use Rattle.report.specs.ReportCall.{report_of, short_for, report_test, report_as, report_call, reported_at, verdict_call}
 

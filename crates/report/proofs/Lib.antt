@@ -1,3 +1,4 @@
+pub mod laws
 pub mod Putting
 pub mod Outcomes
 pub mod Calls

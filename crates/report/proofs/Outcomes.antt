@@ -12,9 +12,9 @@ use Rattle.code.specs.Symbols.{Below, letter_kinds}
 use Rattle.code.specs.Layout.{Lengths, joined}
 use Rattle.code.specs.Bounds.{longest}
 use Rattle.code.specs.Verdicts.{verdict_number, verdict_of}
-use Rattle.code.specs.laws.Verdicts.{verdict_back, AllNumbered, outcomes_numbered}
+use Rattle.code.proofs.laws.Verdicts.{verdict_back, AllNumbered, outcomes_numbered}
 use Rattle.code.specs.Strands.{Outcome, outcomes, verdicts_of}
-use Rattle.code.specs.laws.Strands.{length-outcomes, joined_pieces}
+use Rattle.code.proofs.laws.Strands.{length-outcomes, joined_pieces}
 use Rattle.code.specs.ReadCall.{pieces_of}
 use Rattle.code.specs.declared.Verdict.{Verdict}
 use Rattle.code.specs.declared.Verdict.TheVariants.{NoStart}
@@ -23,7 +23,7 @@ use Rattle.reading.proofs.Fronts.{length_ends}
 use Rattle.reading.proofs.Spans.{ends_count}
 use Rattle.lines.specs.Report.{in_letters, reported}
 use Rattle.report.specs.Walked.{Inside, part, reported_from, Reportable}
-use Rattle.report.specs.laws.Named.{AllName, outcomes_name}
+use Rattle.report.proofs.laws.Named.{AllName, outcomes_name}
 
 -- The pieces
 

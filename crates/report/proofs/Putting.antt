@@ -18,7 +18,7 @@ use lib.Seq.{drop-cons}
 use Rattle.code.specs.Verdicts.{verdict_of}
 use Rattle.code.specs.declared.Verdict.{Verdict}
 use Rattle.text.specs.Put.{Appended}
-use Rattle.text.specs.laws.Put.{Appended-nothing, Appended-both}
+use Rattle.text.proofs.laws.Put.{Appended-nothing, Appended-both}
 use Rattle.lines.specs.Report.{in_letters, segment_line, lines_from}
 use Rattle.report.specs.Walked.{Inside, part, reported_from, Reportable}
 

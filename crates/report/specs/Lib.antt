@@ -1,3 +1,2 @@
 pub mod ReportCall
 pub mod Walked
-pub mod laws

@@ -1,4 +1,7 @@
 // The report calls: what happened to each segment.
+
+#![tactic(auto)]
+
 ghost use Rattle.std.specs.Prelude.{◌≡◌, ◌*◌, ◌<◌, ◌≤◌, length};
 ghost use Rattle.code.specs.declared.Refusal.TheVariants.{ShortBuffer};
 ghost use Rattle.code.specs.declared.Checked.TheVariants.{Fine};
@@ -44,7 +47,7 @@ fn in_letters(number: u32, piece: &[u8]) -> Verdict
 // they end.
 fn put_lines(out: &mut [u8], verdicts: &[u32], ends: &[u16], letters: &[u8]) -> usize
     requires reportable { Reportable 0 verdicts.now ends.now letters.now }
-    requires letters_in_bounds { length (lines_from 1 (reported_from 0 verdicts.now ends.now letters.now)) ≤ length out.old }
+    requires room { length (lines_from 1 (reported_from 0 verdicts.now ends.now letters.now)) ≤ length out.old }
     ensures { Appended out.old 0 (lines_from 1 (reported_from 0 verdicts.now ends.now letters.now)) out.new result }
 {
     let mut end = 0;
@@ -70,11 +73,10 @@ fn write_lines(
     symbols: &mut [u8],
     out: &mut [u8],
 ) -> Wrote
-    requires letters_len_bound { (length letters.now ≤ most_letters) × (unknown ≡ has_unknown letters.now) × Below letter_kinds letters.now }
+    requires received { (length letters.now ≤ most_letters) × (unknown ≡ has_unknown letters.now) × Below letter_kinds letters.now }
     requires taken { Taken (order lengths.now b) × (4 * b ≤ length symbols.old) }
-    ensures* { do
-      let lines = lines_of (outcomes lengths.now letters.now) in
-          ⌜ (result, out.new) ≡ report_as (refuse (short_for lines (length out.old)) ShortBuffer Fine) lines out.old ⌝ }
+    ensures { let lines = lines_of (outcomes lengths.now letters.now) in
+        (result, out.new) ≡ report_as (refuse (short_for lines (length out.old)) ShortBuffer Fine) lines out.old }
 {
     let mut verdicts = [0u32; 64];
     let mut ends = [0u16; 64];
@@ -106,7 +108,7 @@ fn verdict_at(
     symbols: &mut [u8],
     i: usize,
 ) -> Verdict
-    requires letters_len_bound { (length letters.now ≤ most_letters) × (unknown ≡ has_unknown letters.now) × Below letter_kinds letters.now }
+    requires received { (length letters.now ≤ most_letters) × (unknown ≡ has_unknown letters.now) × Below letter_kinds letters.now }
     requires taken { Taken (order lengths.now b) × (i < length lengths.now) × (4 * b ≤ length symbols.old) }
     ensures { result ≡ reported_at (outcomes lengths.now letters.now) i }
 {
@@ -137,9 +139,7 @@ fn write_lent(
     out: &mut [u8],
 ) -> Wrote
     requires { Room b letters.now legible.old symbols.old }
-    ensures* { do
-      let o = order lengths.now b in
-          ⌜ (result, out.new) ≡ report_call o letters.now out.old ⌝ }
+    ensures { let o = order lengths.now b in (result, out.new) ≡ report_call o letters.now out.old }
 {
     let received = received_test(lengths, b, letters.len());
     if let Checked::Refused(r) = received {
@@ -162,9 +162,7 @@ fn write_lent(
 // Turned down, in this order: 1 to 4 and 6 as for a reading; 5 `out` has fewer bytes than the lines.
 // The bytes behind the lines are untouched; a refusal leaves the buffer as it was.
 pub fn write(lengths: &[u16], b: u32, letters: &[u8], out: &mut [u8]) -> Wrote
-    ensures* { do
-      let o = order lengths.now b in
-          ⌜ (result, out.new) ≡ report_call o letters.now out.old ⌝ }
+    ensures { let o = order lengths.now b in (result, out.new) ≡ report_call o letters.now out.old }
 {
     if letters.len() <= SHORT_LETTERS && b <= SHORT_BYTES {
         let mut legible = [0u8; 1280];
@@ -186,7 +184,7 @@ fn verdict_lent(
     segment: u32,
 ) -> Reported
     requires { Room b letters.now legible.old symbols.old }
-    ensures* { do let o = order lengths.now b in ⌜ result ≡ verdict_call o letters.now segment ⌝ }
+    ensures { let o = order lengths.now b in result ≡ verdict_call o letters.now segment }
 {
     let received = received_test(lengths, b, letters.len());
     if let Checked::Refused(r) = received {
@@ -209,7 +207,7 @@ fn verdict_lent(
 // Answers what the line of one segment tells, the segments being counted from 1; an edit carries the number of its letter, 4 for N.
 // Turned down, in this order: 1 to 4 and 6 as for a reading; 9 there is no such segment.
 pub fn verdict(lengths: &[u16], b: u32, letters: &[u8], segment: u32) -> Reported
-    ensures* { do let o = order lengths.now b in ⌜ result ≡ verdict_call o letters.now segment ⌝ }
+    ensures { let o = order lengths.now b in result ≡ verdict_call o letters.now segment }
 {
     if letters.len() <= SHORT_LETTERS && b <= SHORT_BYTES {
         let mut legible = [0u8; 1280];

@@ -19,7 +19,7 @@ use Rattle.text.specs.Put.{Appended}
 use Rattle.console.specs.RefusedLine.{refused_line}
 use Rattle.lines.specs.Report.{most_report}
 use Rattle.report.specs.ReportCall.{report_of, strand_test, report_as, report_call}
-use Rattle.report.specs.laws.ReportCall.{report_room}
+use Rattle.report.proofs.laws.ReportCall.{report_room}
 use Rattle.report_strand.specs.ReportOutput.{report_text}
 
 module _ (o : Order) (letters before after : List ℕ) (answer : Wrote) (room : most_report ≤ length before) (e : (answer, after) ≡ report_call o letters before) where

@@ -1,4 +1,7 @@
 // Reads two lines, a label and a strand, and prints for each segment what happened to it; or `refused` and the number.
+
+#![tactic(auto)]
+
 ghost use Rattle.std.specs.Prelude.{◌≡◌, ◌≤◌, length, take};
 ghost use Rattle.code.specs.Order.{order};
 ghost use Rattle.text.specs.Put.{Appended};
@@ -12,9 +15,7 @@ use text::lines::{behind, front, line};
 // What is reported of letters, for an order, at the front of `out`; the answer is where it ends.
 fn put_report(out: &mut [u8], lengths: &[u16], b: u32, letters: &[u8]) -> usize
     requires { most_report ≤ length out.old }
-    ensures* { do
-      let o = order lengths.now b in
-          ⌜ Appended out.old 0 (report_text o letters.now) out.new result ⌝ }
+    ensures { let o = order lengths.now b in Appended out.old 0 (report_text o letters.now) out.new result }
 {
     let wrote = report::write(lengths, b, letters, out);
     match wrote {

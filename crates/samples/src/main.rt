@@ -1,4 +1,7 @@
 // Runs the functions on the samples that are not proved as theorems; the file stdout has what they must give.
+
+#![tactic(auto)]
+
 use code::{Counted, Decoded, Letter, Wrote};
 use libc::STDOUT_FILENO;
 

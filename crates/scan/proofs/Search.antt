@@ -15,15 +15,15 @@ use borrow.Author.Tests.{lt-ltb, le-ltb}
 use lib.ListN.{length, get_or, take, drop, length-take, length-drop, drop_of_length-le}
 use lib.Seq.{drop-cons, drop-drop}
 use Rattle.code.specs.Symbols.{as_symbols}
-use Rattle.code.specs.laws.Letters.{length_as}
+use Rattle.code.proofs.laws.Letters.{length_as}
 use Rattle.code.specs.Bounds.{longest, widest}
 use Rattle.code.specs.Layers.{width}
-use Rattle.code.specs.laws.Layers.{width-Least}
+use Rattle.code.proofs.laws.Layers.{width-Least}
 use Rattle.code.specs.Segment.{size}
 use Rattle.code.specs.Reading.{is_prefix, clean}
 use Rattle.code.specs.Strands.{above, pairs, window}
 use Rattle.places.specs.Offsets.{tried_at}
-use Rattle.places.specs.laws.Offsets.{tried_even, tried_above, tried_behind_lem, about_length, about_at}
+use Rattle.places.proofs.laws.Offsets.{tried_even, tried_above, tried_behind_lem, about_length, about_at}
 use Rattle.places.proofs.TestsAtPlaces.{block_begin, block_turn, block_stop, block_end}
 use Rattle.tail.specs.declared.Tail.{Tail}
 use Rattle.tail.specs.Tails.{mark, IsTail, tail_of}
@@ -32,7 +32,7 @@ use Rattle.clean.proofs.Parts.{mark_fails, segment_seen}
 use Rattle.scan.specs.declared.Next.{Next}
 use Rattle.scan.specs.declared.Next.TheVariants.{Clean, Nowhere}
 use Rattle.scan.specs.Scans.{first_clean, letter_before, first_at_most, searched}
-use Rattle.scan.specs.laws.Scans.{clean_short, letter_from}
+use Rattle.scan.proofs.laws.Scans.{clean_short, letter_from}
 
 -- The starts that are left
 

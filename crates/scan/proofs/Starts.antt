@@ -12,14 +12,14 @@ use lib.Seq.{drop-drop}
 use Rattle.code.specs.Limits.{most_letters}
 use Rattle.code.specs.Bounds.{Length}
 use Rattle.code.specs.Symbols.{as_symbols}
-use Rattle.code.specs.laws.Letters.{length_as, as_Below}
-use Rattle.code.specs.laws.Below.{Below-drop}
-use Rattle.code.specs.laws.Layers.{width-Least}
+use Rattle.code.proofs.laws.Letters.{length_as, as_Below}
+use Rattle.code.proofs.laws.Below.{Below-drop}
+use Rattle.code.proofs.laws.Layers.{width-Least}
 use Rattle.code.specs.Segment.{size}
-use Rattle.code.specs.laws.Segment.{width_two}
+use Rattle.code.proofs.laws.Segment.{width_two}
 use Rattle.code.specs.Reading.{clean}
 use Rattle.scan.specs.Scans.{first_clean, letter_before, clean_from, searched, start_of, start_from, Known}
-use Rattle.scan.specs.laws.Scans.{clean_short, letter_below}
+use Rattle.scan.proofs.laws.Scans.{clean_short, letter_below}
 
 -- a segment's size is one that the search takes
 pub size_room : (marked : Bool) (k : ℕ) → Length k → (8 ≤ size marked k) × (size marked k ≤ most_letters)

@@ -1,12 +1,11 @@
 -- Runs of the search about a place n, for a clean segment of the message 0 0 behind f = 0, each with the start that it finds.
-use Rattle.std.specs.Prelude.{Bool, true, false, ◌&&◌, List, [], ◌∷◌, ◌++◌, ℕ, T, eqb, replicate}
+use Rattle.std.specs.Prelude.{Bool, true, false, ◌&&◌, List, [], ◌∷◌, ◌++◌, ℕ, eqb, replicate}
 use Rattle.std.proofs.Math.Option.{Option, some, none}
 use Rattle.code.specs.Ascii.{digits}
 use Rattle.code.specs.Symbols.{as_symbols}
-use Rattle.code.specs.Layers.{pair, ones, sum_from, sum_of_places, syndrome, first_power, width, bits}
-use Rattle.code.specs.Segment.{total, check, sep, syndrome_of, separator, marker, block, segment}
-use Rattle.code.specs.Reading.{is_prefix, clean}
-use Rattle.code.specs.Strands.{above, pairs, window}
+use Rattle.code.specs.Segment.{check, marker, segment}
+use Rattle.code.specs.Reading.{clean}
+use Rattle.code.specs.Strands.{window}
 use Rattle.scan.specs.Scans.{first_clean, letter_before}
 
 -- whether f is the received symbol; f; n; how far to each side; the letters from P on; and the start, 0 for none
@@ -53,11 +52,6 @@ runs =
     ∷ gives true 3 8 8 (digits "2200022200") 0
     ∷ []
 
-abbrev all : List Run → Bool
+abbrev pub all : List Run → Bool
 all [] = true
 all (r ∷ rs) = right r && all rs
-
-pub runs_right : T (all runs)
-unfolding right first_clean letter_before above pairs clean is_prefix segment block marker separator syndrome_of sep check total pair bits width
-    first_power syndrome sum_of_places sum_from ones as_symbols
-runs_right = tt

@@ -1,4 +1,7 @@
 // The search for a clean segment about a place.
+
+#![tactic(auto)]
+
 ghost use Rattle.std.specs.Prelude.{◌≡◌, ◌*◌, ◌<◌, ◌≤◌, length};
 ghost use Rattle.code.specs.Symbols.{as_symbols};
 ghost use Rattle.code.specs.Limits.{most_letters};
@@ -15,7 +18,7 @@ use tail::{symbol_in, tail_of};
 
 // Where reading goes on, with the symbol before that start; whether a clean segment is known to stand there, and how many are passed before it; or that
 // no start is found.
-#[derive(Drop)]
+#[derive(Clone, Copy)]
 pub enum Next {
     At(usize, u8),
     Clean(usize, u8, u16),
@@ -67,8 +70,8 @@ pub fn find_clean(
     f: u8,
     passed: u16,
 ) -> Next
-    requires letters_len_bound { length letters.now ≤ most_letters }
-    requires p_in_bounds { (p ≤ length letters.now) × (wide ≤ n) × (2 * n < reach) }
+    requires received { length letters.now ≤ most_letters }
+    requires window { (p ≤ length letters.now) × (wide ≤ n) × (2 * n < reach) }
     requires length { Length k × (f < 4) }
     ensures { result ≡ searched received f k passed p (window n wide) letters.now }
 {

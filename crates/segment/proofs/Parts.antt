@@ -11,7 +11,7 @@ use lib.Bits.{bit_and}
 use lib.ListN.{length, get_or, take, drop, set, length-append, length-set}
 use lib.Seq.{take-suc, length-take-le, set_at}
 use Rattle.code.specs.Buffers.{put_at}
-use Rattle.code.specs.laws.Lists.{put_nothing}
+use Rattle.code.proofs.laws.Lists.{put_nothing}
 use Rattle.code.specs.Layers.{pair, bits, width}
 use Rattle.code.specs.Segment.{sep, marker, segment, size}
 use Rattle.copying.proofs.Blocks.{put_both}

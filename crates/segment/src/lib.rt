@@ -1,4 +1,7 @@
 // Writing one segment: its marker, the message, and what follows the message.
+
+#![tactic(auto)]
+
 ghost use Rattle.std.specs.Prelude.{◌≡◌, ◌+◌, ◌<◌, ◌≤◌, length};
 ghost use Rattle.code.specs.Bounds.{longest, widest, Length};
 ghost use Rattle.code.specs.Buffers.{put_at};
@@ -51,7 +54,7 @@ fn put_tail(tail: Tail, out: &mut [u8], at: usize)
 // The segment of a message with its tail at a place of `out`; f is the last symbol of the segment before.
 pub fn put_segment(marked: bool, f: u8, message: &[u8], tail: Tail, out: &mut [u8], at: usize)
     requires tail { IsTail message.now tail }
-    requires f_bound { (f < 4) × Length (length message.now) × (at + size marked (length message.now) ≤ length out.old) }
+    requires room { (f < 4) × Length (length message.now) × (at + size marked (length message.now) ≤ length out.old) }
     ensures { out.new ≡ put_at out.old at (segment marked f message.now) }
 {
     let start = put_marker(marked, f, message, out, at);

@@ -13,11 +13,11 @@ use lib.Dec.{eqb}
 use lib.ListN.{length, get_or, take, drop, set, length-map, drop_of_length-le}
 use lib.Seq.{drop-cons, take_all}
 use mir.Val.{bool_byte}
-use Rattle.code.specs.laws.Lists.{write_next}
+use Rattle.code.proofs.laws.Lists.{write_next}
 use Rattle.code.specs.Verdicts.{verdict_of}
 use Rattle.code.specs.Sheet.{mark_of, marks_of, sheet_of, count_of}
 use Rattle.sheet.specs.SheetBytes.{byte_at}
-use Rattle.sheet.specs.laws.SheetBytes.{sheet_drop}
+use Rattle.sheet.proofs.laws.SheetBytes.{sheet_drop}
 use Rattle.sheet.proofs.VerdictNumbers.{bit_below}
 
 -- The marks of numbers

@@ -1,2 +1,1 @@
 pub mod SheetBytes
-pub mod laws

@@ -1,4 +1,7 @@
 // The segment sheet: verdicts as numbers, their marks packed four to a byte, and how many there are of each.
+
+#![tactic(auto)]
+
 ghost use Rattle.std.specs.Prelude.{◌≡◌, ◌++◌, map, ◌+◌, ◌/◌, ◌<◌, ◌≤◌, length, get_or, drop};
 ghost use Rattle.code.specs.Symbols.{Below};
 ghost use Rattle.code.specs.Limits.{most_segments};
@@ -92,8 +95,8 @@ fn mark_at(marks: &[u8], i: usize) -> u8
 
 // The sheet of marks at the front of `out`: the first mark in a byte's highest two bits, spare bits zero.
 pub fn pack_sheet(marks: &[u8], out: &mut [u8])
-    requires below { Below 4 marks.now }
-    requires marks_len_bound { (length marks.now ≤ most_segments) × (sheet_bytes (length marks.now) ≤ length out.old) }
+    requires marks { Below 4 marks.now }
+    requires room { (length marks.now ≤ most_segments) × (sheet_bytes (length marks.now) ≤ length out.old) }
     ensures { out.new ≡ sheet_of marks.now ++ drop (sheet_bytes (length marks.now)) out.old }
 {
     let n = sheet_bytes(marks.len());

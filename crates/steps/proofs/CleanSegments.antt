@@ -13,16 +13,16 @@ use native.Mathlib.Omega.{arith}
 use lib.ListN.{length, get_or, take, drop, length-drop, length-append}
 use lib.Seq.{drop-drop, take_at, get_or-take, get_or-drop, length-take-le}
 use Rattle.code.specs.Symbols.{Below, as_symbols}
-use Rattle.code.specs.laws.Letters.{length_as}
+use Rattle.code.proofs.laws.Letters.{length_as}
 use Rattle.code.specs.Layers.{width}
 use Rattle.code.specs.Segment.{check, separator, syndrome_of, block, segment, last_of, size, data_at}
-use Rattle.code.specs.laws.Below.{Below-take, Below-drop}
-use Rattle.code.specs.laws.Segment.{length-segment, length_syndrome, width_two}
+use Rattle.code.proofs.laws.Below.{Below-take, Below-drop}
+use Rattle.code.proofs.laws.Segment.{length-segment, length_syndrome, width_two}
 use Rattle.code.specs.Reading.{is_prefix, message, read_message, read_segment}
 use Rattle.code.specs.Reading as R
-use Rattle.code.specs.laws.Reading.{prefix_split, drop_off}
-use Rattle.code.specs.laws.SegmentSteps.{Final}
-use Rattle.code.specs.laws.Strands.{clean_read_message, clean_read}
+use Rattle.code.proofs.laws.Reading.{prefix_split, drop_off}
+use Rattle.code.proofs.laws.SegmentSteps.{Final}
+use Rattle.code.proofs.laws.Strands.{clean_read_message, clean_read}
 use Rattle.code.specs.declared.Edit.TheVariants.{None}
 use Rattle.tail.specs.declared.Tail.{Tail}
 use Rattle.tail.specs.Tails.{mark, IsTail}
@@ -31,7 +31,7 @@ use Rattle.message.specs.declared.MessageResult.TheVariants.{Message}
 use Rattle.message.specs.MessageAnswers.{IsMessageResult}
 use Rattle.clean.proofs.Segment.{size_data}
 use Rattle.scan.specs.Scans.{ahead}
-use Rattle.scan.specs.laws.Scans.{clean_in_symbols}
+use Rattle.scan.proofs.laws.Scans.{clean_in_symbols}
 use Rattle.scan.proofs.Starts.{clean_inside}
 use Rattle.steps.specs.Steps.{step_at, standing_answer, IsStep}
 use Rattle.steps.proofs.Answers.{gives_read}

@@ -1,3 +1,4 @@
+pub mod laws
 pub mod Step1
 pub mod Step8
 pub mod Step9

@@ -13,7 +13,7 @@ use lib.Seq.{drop-drop}
 use Rattle.code.specs.Segment.{data_at}
 use Rattle.code.specs.Reading.{Shift, whole, separator_at, read_whole, read_message}
 use Rattle.code.specs.Reading as R
-use Rattle.code.specs.laws.MessageLengths.{separator_inside}
+use Rattle.code.proofs.laws.MessageLengths.{separator_inside}
 use Rattle.message.specs.MessageAnswers.{hit_at, whole_at}
 use Rattle.message.proofs.Steps3to7.{without_short, moved_least}
 use Rattle.steps.specs.Step8.{separator_in}

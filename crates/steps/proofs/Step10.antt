@@ -19,19 +19,19 @@ use lib.Dec.{ltb}
 use lib.ListN.{length, get_or, drop, length-drop}
 use lib.Seq.{drop-drop}
 use Rattle.code.specs.Symbols.{as_symbols}
-use Rattle.code.specs.laws.Letters.{length_as}
+use Rattle.code.proofs.laws.Letters.{length_as}
 use Rattle.code.specs.Limits.{most_letters}
 use Rattle.code.specs.Bounds.{longest, Length}
-use Rattle.code.specs.laws.Layers.{width-Least}
+use Rattle.code.proofs.laws.Layers.{width-Least}
 use Rattle.code.specs.Segment.{size}
-use Rattle.code.specs.laws.Segment.{width_two}
+use Rattle.code.proofs.laws.Segment.{width_two}
 use Rattle.code.specs.Layout.{Lengths, done, more}
 use Rattle.code.specs.Strands.{above, pairs, window, try_at, tries, first_standing, scan}
-use Rattle.code.specs.laws.Scan.{standing_append}
+use Rattle.code.proofs.laws.Scan.{standing_append}
 use Rattle.scan.specs.declared.Next.{Next}
 use Rattle.scan.specs.declared.Next.TheVariants.{Clean, Nowhere}
 use Rattle.scan.specs.Scans.{first_clean, letter_before, try_from, clean_from, searched, start_of, Known}
-use Rattle.scan.specs.laws.Scans.{clean_short, window_first}
+use Rattle.scan.proofs.laws.Scans.{clean_short, window_first}
 use Rattle.scan.proofs.Starts.{size_room, searched_start, searched-Known}
 use Rattle.scan.specs.contracts.Next.{the_type}
 use Rattle.steps.specs.Steps.{lost_at}

@@ -17,10 +17,10 @@ use Rattle.code.specs.Symbols.{as_symbols}
 use Rattle.code.specs.Bounds.{longest, Length}
 use Rattle.code.specs.Layers.{width}
 use Rattle.code.specs.Segment.{syndrome_of, last_of, size, data_at}
-use Rattle.code.specs.laws.Segment.{length_syndrome, width_two, last_below}
+use Rattle.code.proofs.laws.Segment.{length_syndrome, width_two, last_below}
 use Rattle.code.specs.Layout.{Lengths, done, more}
 use Rattle.code.specs.Reading.{Shift, is_prefix, moved, syndrome_agrees, settled, behind, around, first_shift, clean, end_of}
-use Rattle.code.specs.laws.Reading.{prefix_split}
+use Rattle.code.proofs.laws.Reading.{prefix_split}
 use Rattle.code.specs.Strands.{window}
 use Rattle.tail.specs.declared.Tail.{Tail}
 use Rattle.tail.specs.Tails.{syndrome_in, IsTail}
@@ -29,7 +29,7 @@ use Rattle.message.proofs.Steps3to7.{syndrome_seen}
 use Rattle.scan.specs.declared.Next.{Next}
 use Rattle.scan.specs.declared.Next.TheVariants.{At}
 use Rattle.scan.specs.Scans.{first_clean, letter_before, searched, ahead, start_of, start_from, Known}
-use Rattle.scan.specs.laws.Scans.{around_first}
+use Rattle.scan.proofs.laws.Scans.{around_first}
 use Rattle.scan.proofs.Starts.{searched_start, searched-Known}
 use Rattle.steps.specs.Step8.{separator_in, settled_at, IsEnd}
 

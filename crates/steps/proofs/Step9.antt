@@ -15,11 +15,11 @@ use denote.Enum.Declared.{tag_of}
 use lib.ListN.{length, take, drop}
 use lib.Seq.{take-append-le, take-length}
 use Rattle.code.specs.Buffers.{put_at}
-use Rattle.code.specs.laws.Lists.{put_first}
+use Rattle.code.proofs.laws.Lists.{put_first}
 use Rattle.code.specs.Bounds.{longest}
-use Rattle.code.specs.laws.Layers.{width-Least}
+use Rattle.code.proofs.laws.Layers.{width-Least}
 use Rattle.code.specs.Segment.{segment, size}
-use Rattle.code.specs.laws.Segment.{length-segment}
+use Rattle.code.proofs.laws.Segment.{length-segment}
 use Rattle.code.specs.declared.Edit.{Edit}
 use Rattle.code.specs.declared.Verdict.{Verdict}
 use Rattle.code.specs.declared.Verdict.TheVariants.{Read, Lost}

@@ -1,3 +1,2 @@
 pub mod Step8
 pub mod Steps
-pub mod laws

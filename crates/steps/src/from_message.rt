@@ -28,9 +28,9 @@ fn ended(
     out: &mut [u8],
 ) -> Answer
     requires at_start { AtStart s.now letters.now rest.now (length out.old) p f }
-    requires found_value { found ≡ separator_as (separator_in marked (length out.old) p s.now) }
+    requires found { found ≡ separator_as (separator_in marked (length out.old) p s.now) }
     requires tail { IsTail out.old tail }
-    requires s_value { R.read_message marked (length out.old) (drop p s.now) ≡ R.message out.old }
+    requires message { R.read_message marked (length out.old) (drop p s.now) ≡ R.message out.old }
     ensures { Stepped marked f p s.now letters.now rest.now out.old out.new result }
 {
     let next = end_of(s, letters, p, marked, out, tail, found, rest);
@@ -58,8 +58,8 @@ pub fn finished(
     out: &mut [u8],
 ) -> Answer
     requires at_start { AtStart s.now letters.now rest.now (length out.old) p f }
-    requires found_value { found ≡ separator_as (separator_in marked (length out.old) p s.now) }
-    requires message_result { IsMessageResult (R.read_message marked (length out.old) (drop p s.now)) out.old read }
+    requires found { found ≡ separator_as (separator_in marked (length out.old) p s.now) }
+    requires message { IsMessageResult (R.read_message marked (length out.old) (drop p s.now)) out.old read }
     ensures { Stepped marked f p s.now letters.now rest.now out.old out.new result }
 {
     match read {

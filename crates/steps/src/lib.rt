@@ -1,4 +1,7 @@
 // Steps 1 to 10 of a segment.
+
+#![tactic(auto)]
+
 mod from_message;
 mod step_10;
 mod step_8;
@@ -28,7 +31,7 @@ use step_10::lost;
 use tail::{tail_given, tail_with};
 
 // What is said of a segment, and where the next one starts.
-#[derive(Drop)]
+#[derive(Clone, Copy)]
 pub struct Answer {
     pub verdict: Verdict,
     pub next: Next,
@@ -48,9 +51,9 @@ fn is_whole(s: &[u8], p: usize, marked: bool) -> bool
 // A segment that stands in its place as it would be written, its message at d, is read with no edit.
 fn put_standing(s: &[u8], d: usize, out: &mut [u8]) -> Answer
     requires received { Received s.now × Length (length out.old) }
-    requires out_in_bounds { d + length out.old + (4 + width (length out.old)) ≤ length s.now }
-    ensures value { result ≡ standing_answer (length out.old) d s.now }
-    ensures out_after { out.new ≡ take (length out.old) (drop d s.now) }
+    requires inside { d + length out.old + (4 + width (length out.old)) ≤ length s.now }
+    ensures answer { result ≡ standing_answer (length out.old) d s.now }
+    ensures message { out.new ≡ take (length out.old) (drop d s.now) }
 {
     let k = out.len();
     let end = d + k + (4 + layers::width_of(k));
@@ -74,8 +77,8 @@ fn read_summed(
     out: &mut [u8],
 ) -> Answer
     requires at_start { AtStart s.now letters.now rest.now (length out.old) p f }
-    requires s_value { (R.whole marked (drop p s.now) ≡ true) × (d ≡ p + data_at marked) × (d + length out.old ≤ length s.now) }
-    requires sums_value { sums ≡ sums_of (take (length out.old) (drop d s.now)) }
+    requires whole { (R.whole marked (drop p s.now) ≡ true) × (d ≡ p + data_at marked) × (d + length out.old ≤ length s.now) }
+    requires sums { sums ≡ sums_of (take (length out.old) (drop d s.now)) }
     ensures { Stepped marked f p s.now letters.now rest.now out.old out.new result }
 {
     let k = out.len();
@@ -97,7 +100,7 @@ fn read_marked(
     out: &mut [u8],
 ) -> Answer
     requires at_start { AtStart s.now letters.now rest.now (length out.old) p f }
-    requires s_value { R.whole marked (drop p s.now) ≡ true }
+    requires whole { R.whole marked (drop p s.now) ≡ true }
     ensures { Stepped marked f p s.now letters.now rest.now out.old out.new result }
 {
     let k = out.len();
@@ -124,7 +127,7 @@ fn read_unmarked(
     out: &mut [u8],
 ) -> Answer
     requires at_start { AtStart s.now letters.now rest.now (length out.old) p f }
-    requires s_value { R.whole marked (drop p s.now) ≡ false }
+    requires not_whole { R.whole marked (drop p s.now) ≡ false }
     ensures { Stepped marked f p s.now letters.now rest.now out.old out.new result }
 {
     let found = find_separator(s, p + 2, out.len());
@@ -161,7 +164,7 @@ fn read_last_clean(
     out: &mut [u8],
 ) -> Answer
     requires at_start { AtStart s.now letters.now rest.now (length out.old) p f }
-    requires rest_len { (length rest.now ≡ 0) × (R.clean (length out.old) f (drop p s.now) (drop p letters.now) ≡ true) }
+    requires last_clean { (length rest.now ≡ 0) × (R.clean (length out.old) f (drop p s.now) (drop p letters.now) ≡ true) }
     ensures { Stepped true f p s.now letters.now rest.now out.old out.new result }
 {
     let k = out.len();
@@ -186,7 +189,7 @@ fn read_last_clean(
 // The segment at p, where a clean one is known to stand.
 fn read_clean(s: &[u8], letters: &[u8], p: usize, f: u8, rest: &[u16], out: &mut [u8]) -> Answer
     requires at_start { AtStart s.now letters.now rest.now (length out.old) p f }
-    requires letters_value { R.clean (length out.old) f (drop p s.now) (drop p letters.now) ≡ true }
+    requires clean { R.clean (length out.old) f (drop p s.now) (drop p letters.now) ≡ true }
     ensures { Stepped true f p s.now letters.now rest.now out.old out.new result }
 {
     if rest.len() == 0 {
@@ -197,8 +200,8 @@ fn read_clean(s: &[u8], letters: &[u8], p: usize, f: u8, rest: &[u16], out: &mut
 
 // A segment that is lost for want of a start; reading goes on at `next`.
 fn unfound(next: Next, out: &mut [u8]) -> Answer
-    ensures value { result ≡ unfound_answer next }
-    ensures out_after { out.new ≡ replicate (length out.old) 0 }
+    ensures answer { result ≡ unfound_answer next }
+    ensures zeros { out.new ≡ replicate (length out.old) 0 }
 {
     put_zeros(out);
     Answer {

@@ -15,10 +15,10 @@ use segment::size_of;
 
 // Step 10: which later segment stands where behind a lost one of k message symbols; `rest` is the lengths behind it.
 fn scan_behind(letters: &[u8], p: usize, marked: bool, k: usize, rest: &[u16]) -> Next
-    requires letters_len_bound { length letters.now ≤ most_letters }
-    requires p_in_bounds { (p ≤ length letters.now) × Length k }
+    requires received { length letters.now ≤ most_letters }
+    requires place { (p ≤ length letters.now) × Length k }
     requires lengths { Lengths longest rest.now }
-    ensures result_value { start_of result ≡ (lost_at marked k rest.now p (as_symbols letters.now) letters.now 0).next }
+    ensures start { start_of result ≡ (lost_at marked k rest.now p (as_symbols letters.now) letters.now 0).next }
     ensures known { Known (as_symbols letters.now) letters.now rest.now result }
 {
     let mut centre = size_of(marked, k);
@@ -51,8 +51,8 @@ pub fn lost(
     step: u8,
     out: &mut [u8],
 ) -> Answer
-    requires letters_len_bound { length letters.now ≤ most_letters }
-    requires p_in_bounds { (p ≤ length letters.now) × Length (length out.old) }
+    requires received { length letters.now ≤ most_letters }
+    requires place { (p ≤ length letters.now) × Length (length out.old) }
     requires lengths { Lengths longest rest.now }
     ensures { SteppedLost marked step p (as_symbols letters.now) letters.now rest.now out.old out.new result }
 {

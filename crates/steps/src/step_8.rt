@@ -23,9 +23,9 @@ fn end_at_clean(
     tail: Tail,
     rest: &[u16],
 ) -> Next
-    requires letters_len_bound { (length letters.now ≤ most_letters) × IsTail message.now tail × Lengths longest rest.now }
-    requires p_in_bounds { (p ≤ length letters.now) × Length (length message.now) × (0 < length rest.now) }
-    requires letters_value { settled_at marked message.now p (as_symbols letters.now) ≡ false }
+    requires received { (length letters.now ≤ most_letters) × IsTail message.now tail × Lengths longest rest.now }
+    requires place { (p ≤ length letters.now) × Length (length message.now) × (0 < length rest.now) }
+    requires unsettled { settled_at marked message.now p (as_symbols letters.now) ≡ false }
     ensures { IsEnd marked message.now rest.now p (as_symbols letters.now) letters.now result }
 {
     find_clean(
@@ -52,8 +52,8 @@ pub fn end_of(
     rest: &[u16],
 ) -> Next
     requires received { Received s.now × IsTail message.now tail × Lengths longest rest.now × (s.now ≡ as_symbols letters.now) }
-    requires p_in_bounds { (p ≤ length s.now) × Length (length message.now) }
-    requires found_value { found ≡ separator_as (separator_in marked (length message.now) p s.now) }
+    requires place { (p ≤ length s.now) × Length (length message.now) }
+    requires found { found ≡ separator_as (separator_in marked (length message.now) p s.now) }
     ensures { IsEnd marked message.now rest.now p s.now letters.now result }
 {
     if rest.len() == 0 {

@@ -23,7 +23,7 @@ pub fn compared(
 ) -> Verdict
     requires received { Received s.now }
     requires tail { IsTail message.now tail }
-    requires p_le_end { (p ≤ end) × (end ≤ length s.now) × (f < 4) × Length (length message.now) }
+    requires piece { (p ≤ end) × (end ≤ length s.now) × (f < 4) × Length (length message.now) }
     ensures { result ≡ judged_as (judged (segment marked f message.now) (take (end - p) (drop p s.now))) }
 {
     let mut anew = [0u8; 272];

@@ -11,7 +11,7 @@ use lib.ListN.{length, take, length-append}
 use lib.Seq.{take_at}
 use Rattle.code.specs.declared.Decoded.TheVariants as D
 use Rattle.code.specs.Symbols.{legible, decoded, has_unknown}
-use Rattle.code.specs.laws.Symbols.{whole_length, whole_unknown}
+use Rattle.code.proofs.laws.Symbols.{whole_length, whole_unknown}
 
 module _ (a cs r : List ℕ) (b : Bool) (e : a ≡ legible cs ++ r) (w : decoded cs ≡ D.Whole b) where
   pub decoded_inside : length cs ≤ length a

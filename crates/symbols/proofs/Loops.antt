@@ -15,9 +15,9 @@ use native.Mathlib.Omega.{arith}
 use lib.Dec.{ltb}
 use lib.ListN.{length, get_or, drop, length-drop, drop_of_length-le}
 use lib.Seq.{drop-cons}
-use Rattle.code.specs.laws.Lists.{drop_next, drop_inside}
+use Rattle.code.proofs.laws.Lists.{drop_next, drop_inside}
 use Rattle.code.specs.Symbols.{letter_of, legible, as_symbols, has_unknown}
-use Rattle.code.specs.laws.Letters.{length_as, as_drop}
+use Rattle.code.proofs.laws.Letters.{length_as, as_drop}
 use Rattle.symbols.specs.Letters.{is_letter, all_letters}
 use Rattle.symbols.proofs.LetterBits.{number_before, no_letter}
 

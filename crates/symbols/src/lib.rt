@@ -1,4 +1,7 @@
 // Letters and symbols.
+
+#![tactic(auto)]
+
 ghost use Rattle.std.specs.Prelude.{◌≡◌, true, ◌&&◌, ◌||◌, ◌<◌, ◌≤◌, length};
 ghost use Rattle.code.specs.Symbols.{Below, letter_of, symbol_of, letters, legible, decoded, as_symbols, has_unknown};
 ghost use Rattle.code.specs.Buffers.{over_front};
@@ -111,8 +114,8 @@ fn all_letters(letters: &[u8], unknown: bool) -> bool
 
 // The numbers of letters throughout, at the front of `out`; `unknown` says whether an N may be among them.
 fn decode_letters(letters: &[u8], out: &mut [u8], unknown: bool)
-    requires letters_value { all_letters unknown letters.now ≡ true }
-    requires letters_in_bounds { length letters.now ≤ length out.old }
+    requires letters { all_letters unknown letters.now ≡ true }
+    requires room { length letters.now ≤ length out.old }
     ensures { out.new ≡ over_front (legible letters.now) out.old }
 {
     let mut i = 0;

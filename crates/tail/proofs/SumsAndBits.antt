@@ -15,7 +15,7 @@ use lib.ListN.{length, get_or, drop, drop_of_length-le}
 use mir.Val.{bool_byte}
 use lib.Seq.{drop-cons}
 use Rattle.code.specs.Layers.{bit, digit, pair, bits}
-use Rattle.code.specs.laws.Layers.{digit-bit}
+use Rattle.code.proofs.laws.Layers.{digit-bit}
 use Rattle.code.specs.Segment.{total}
 
 -- either of two tests, as a number

@@ -14,9 +14,9 @@ use lib.ListN.{length, get_or}
 use Rattle.code.specs.Symbols.{Below}
 use Rattle.code.specs.Bounds.{widest, Length}
 use Rattle.code.specs.Layers.{bit, digit, layer, syndrome, number, pair, bits, width}
-use Rattle.code.specs.laws.Layers.{length-layer, length-bits, length-pair, bits-number, pair_layers, width-Least}
+use Rattle.code.proofs.laws.Layers.{length-layer, length-bits, length-pair, bits-number, pair_layers, width-Least}
 use Rattle.code.specs.Segment.{check, sep, separator, syndrome_of, block, segment, last_of}
-use Rattle.code.specs.laws.Segment.{check_below, separator-Apart, syndrome_symbols_Below, width_two}
+use Rattle.code.proofs.laws.Segment.{check_below, separator-Apart, syndrome_symbols_Below, width_two}
 use Rattle.layers.specs.declared.Layers.{Layers}
 use Rattle.layers.specs.LayerSums.{both}
 use Rattle.tail.specs.declared.Tail.{Tail}

@@ -1,4 +1,7 @@
 // What follows a message in its segment: check, separator and syndrome.
+
+#![tactic(auto)]
+
 ghost use Rattle.std.specs.Prelude.{◌≡◌, ◌+◌, ◌-◌, ◌*◌, ◌<◌, ◌≤◌, length, get_or};
 ghost use Rattle.code.specs.Bounds.{longest, widest, Length};
 ghost use Rattle.code.specs.Layers.{bit, digit};
@@ -9,7 +12,7 @@ ghost use Rattle.tail.specs.Tails.{IsTail, tail_of};
 use layers::Summed;
 
 // What follows a message: check, separator, and the syndromes of both layers, in `width` bits each.
-#[derive(Drop)]
+#[derive(Clone, Copy)]
 pub struct Tail {
     pub check: u8,
     pub separator: u8,

@@ -1,4 +1,7 @@
 // The tally call: the counts of one reading added to a tally.
+
+#![tactic(auto)]
+
 ghost use Rattle.std.specs.Prelude.{◌≡◌};
 ghost use Rattle.code.specs.Tallies.{passes, full, tallied};
 

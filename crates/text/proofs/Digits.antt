@@ -5,10 +5,10 @@ use Prim.Native.Nat.{ℕ, suc, ◌+◌, ◌*◌, ◌<◌}
 use native.Mathlib.Omega.{arith}
 use lib.ListN.{length, get_or, take, drop, set}
 use lib.Seq.{drop-cons}
-use Rattle.code.specs.laws.Lists.{write_next}
+use Rattle.code.proofs.laws.Lists.{write_next}
 use Rattle.text.specs.HexDigit.{value_of}
 use Rattle.text.specs.Hex.{hex_bytes}
-use Rattle.text.specs.laws.Hex.{hex_bytes-drop}
+use Rattle.text.proofs.laws.Hex.{hex_bytes-drop}
 
 -- the next two bytes of a text
 drop_two : (cs : List ℕ) (j : ℕ) → j + 1 < length cs → drop j cs ≡ get_or cs j 0 ∷ get_or cs (j + 1) 0 ∷ drop (j + 2) cs

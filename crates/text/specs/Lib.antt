@@ -3,4 +3,3 @@ pub mod HexDigit
 pub mod Hex
 pub mod Decimal
 pub mod Put
-pub mod laws

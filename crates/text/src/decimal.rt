@@ -7,7 +7,7 @@ use crate::hex_digit::{digit_of, value_of};
 use crate::put::put;
 
 // The number that a text writes, or that it writes none.
-#[derive(Drop)]
+#[derive(Clone, Copy)]
 pub enum Number {
     Of(u16),
     Bad,

@@ -9,7 +9,7 @@ use crate::hex_digit::{NO_DIGIT, digit_of, value_of};
 use crate::put::put;
 
 // How many bytes digits gave, or that they gave none.
-#[derive(Drop)]
+#[derive(Clone, Copy)]
 pub enum Hex {
     Bytes(usize),
     Bad,
@@ -32,8 +32,8 @@ pub fn all_digits(text: &[u8]) -> bool
 
 // The bytes of digits, two to a byte, at the front of `out`.
 fn put_bytes(digits: &[u8], out: &mut [u8])
-    requires digits_value { all_digits no_digit digits.now ≡ true }
-    requires digits_in_bounds { length digits.now / 2 ≤ length out.old }
+    requires digits { all_digits no_digit digits.now ≡ true }
+    requires room { length digits.now / 2 ≤ length out.old }
     ensures { out.new ≡ over_front (hex_bytes digits.now) out.old }
 {
     let n = digits.len() / 2;

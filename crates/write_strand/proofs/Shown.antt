@@ -19,7 +19,7 @@ use Rattle.text.specs.declared.hex.Hex.{Hex}
 use Rattle.text.specs.declared.hex.Hex.TheVariants.{Bytes, Bad}
 use Rattle.text.specs.Lines.{feed}
 use Rattle.text.specs.Hex.{hex_bytes, decode_call}
-use Rattle.text.specs.laws.Hex.{decode_good, decode_bad}
+use Rattle.text.proofs.laws.Hex.{decode_good, decode_bad}
 use Rattle.console.specs.RefusedLine.{refused_line}
 use Rattle.write_strand.specs.WriteOutput.{written, write_text}
 

@@ -1,4 +1,7 @@
 // Reads two lines, a label and a message in hexadecimal digits, and prints the strand; or `refused` and the number.
+
+#![tactic(auto)]
+
 ghost use Rattle.std.specs.Prelude.{◌≡◌, ◌≤◌, length, take, replicate};
 ghost use Rattle.code.specs.Limits.{most_letters};
 ghost use Rattle.code.specs.Order.{order};
@@ -15,9 +18,8 @@ use text::put::put;
 // What a message is written as, for an order, at the front of `out`; the answer is where it ends.
 fn put_strand(out: &mut [u8], lengths: &[u16], b: u32, message: &[u8]) -> usize
     requires { output_room ≤ length out.old }
-    ensures* { do
-      let o = order lengths.now b in
-          ⌜ Appended out.old 0 (written (write_call o message.now (replicate most_letters 0))) out.new result ⌝ }
+    ensures { let o = order lengths.now b in
+        Appended out.old 0 (written (write_call o message.now (replicate most_letters 0))) out.new result }
 {
     let mut strand = [0u8; 4096];
     match writer::write(lengths, b, message, &mut strand) {
@@ -32,9 +34,7 @@ fn put_strand(out: &mut [u8], lengths: &[u16], b: u32, message: &[u8]) -> usize
 // The same for the line that holds the message: at most 512 bytes, two digits each, or refused 2.
 fn put_message(out: &mut [u8], lengths: &[u16], b: u32, digits: &[u8]) -> usize
     requires { output_room ≤ length out.old }
-    ensures* { do
-      let o = order lengths.now b in
-          ⌜ Appended out.old 0 (write_text o digits.now) out.new result ⌝ }
+    ensures { let o = order lengths.now b in Appended out.old 0 (write_text o digits.now) out.new result }
 {
     let mut message = [0u8; 512];
     match text::hex::decode(digits, &mut message) {

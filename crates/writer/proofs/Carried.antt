@@ -12,10 +12,10 @@ use native.Mathlib.Omega.{arith}
 use lib.ListN.{length, get_or, take, drop, length-map, length-append, drop_of_length-le}
 use lib.Seq.{take_at, drop_at, drop-cons}
 use Rattle.code.specs.Symbols.{Below, letter_of, letters, symbols}
-use Rattle.code.specs.laws.Symbols.{length-symbols, symbols-Below}
+use Rattle.code.proofs.laws.Symbols.{length-symbols, symbols-Below}
 use Rattle.code.specs.Segment.{size}
 use Rattle.code.specs.Layout.{sum, cut, strand, extent}
-use Rattle.code.specs.laws.Layout.{cut-Below, length-strand-cut, written-Below}
+use Rattle.code.proofs.laws.Layout.{cut-Below, length-strand-cut, written-Below}
 use Rattle.code.specs.Buffers.{over_front}
 use Rattle.code.specs.Writing.{strand_of}
 

@@ -9,11 +9,11 @@ use native.Mathlib.Numerals.{add-one}
 use native.Mathlib.Omega.{arith}
 use lib.ListN.{length, get_or, take, drop, length-drop, drop_of_length-le, take-append-drop}
 use lib.Seq.{drop-cons, drop-drop, length-take-le}
-use Rattle.code.specs.laws.Lists.{take_put, drop_put, length_put}
+use Rattle.code.proofs.laws.Lists.{take_put, drop_put, length_put}
 use Rattle.code.specs.Segment.{segment, last_of, size}
-use Rattle.code.specs.laws.Segment.{length-segment, last_below}
+use Rattle.code.proofs.laws.Segment.{length-segment, last_below}
 use Rattle.code.specs.Layout.{sum, cut, written, strand, extent}
-use Rattle.code.specs.laws.Layout.{length-strand-cut}
+use Rattle.code.proofs.laws.Layout.{length-strand-cut}
 use Rattle.code.specs.Buffers.{over_front, put_at}
 
 -- the first i segments of a layout stand in o, up to place `at`; `from` symbols are in them

@@ -1,4 +1,7 @@
 // The writing call, and the strand of a layout: its length, and its segments one behind the other.
+
+#![tactic(auto)]
+
 ghost use Rattle.std.specs.Prelude.{◌≡◌, false, ◌*◌, ◌≤◌, length};
 ghost use Rattle.code.specs.Limits.{most_length, most_bytes, most_segments};
 ghost use Rattle.code.specs.Bounds.{longest};
@@ -27,9 +30,9 @@ pub fn extent_of(lengths: &[u16]) -> usize
 // The strand of symbols cut by a layout, at the front of `out`; and its length.
 fn write_layout(lengths: &[u16], symbols: &[u8], out: &mut [u8]) -> usize
     requires lengths { Lengths longest lengths.now }
-    requires lengths_value { (sum lengths.now ≡ length symbols.now) × (extent false lengths.now ≤ length out.old) }
-    ensures value { result ≡ extent false lengths.now }
-    ensures out_after { out.new ≡ over_front (strand (cut lengths.now symbols.now)) out.old }
+    requires room { (sum lengths.now ≡ length symbols.now) × (extent false lengths.now ≤ length out.old) }
+    ensures ends { result ≡ extent false lengths.now }
+    ensures written { out.new ≡ over_front (strand (cut lengths.now symbols.now)) out.old }
 {
     let mut i = 0;
     let mut from = 0;
@@ -51,7 +54,7 @@ fn write_layout(lengths: &[u16], symbols: &[u8], out: &mut [u8]) -> usize
 // The letters of the strand that carries bytes on a layout, at the front of `out`; their symbols stand in `buffer`, which is lent.
 fn write_letters(lengths: &[u16], message: &[u8], buffer: &mut [u8], out: &mut [u8])
     requires lengths { Lengths longest lengths.now × (4 * length message.now ≤ length buffer.old) × (length message.now ≤ most_bytes) }
-    requires lengths_value { (sum lengths.now ≡ 4 * length message.now) × (extent false lengths.now ≤ length out.old) }
+    requires room { (sum lengths.now ≡ 4 * length message.now) × (extent false lengths.now ≤ length out.old) }
     ensures { out.new ≡ over_front (strand_of lengths.now message.now) out.old }
 {
     let n = 4 * message.len();
@@ -66,9 +69,7 @@ fn write_letters(lengths: &[u16], message: &[u8], buffer: &mut [u8], out: &mut [
 // or more than 64, or they do not sum to 4B; 5 `out` has fewer bytes than the strand has letters.
 // The bytes of `out` behind the strand are untouched; a refusal leaves all of `out` as it was.
 pub fn write(lengths: &[u16], b: u32, message: &[u8], out: &mut [u8]) -> Wrote
-    ensures* { do
-      let o = order lengths.now b in
-          ⌜ (result, out.new) ≡ write_call o message.now out.old ⌝ }
+    ensures { let o = order lengths.now b in (result, out.new) ≡ write_call o message.now out.old }
 {
     let other = message.len() != b as usize;
     let tested = refusal::order_test(lengths, b, other);

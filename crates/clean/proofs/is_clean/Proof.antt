@@ -4,7 +4,7 @@ use native.Mathlib.Omega.{arith}
 use borrow.Author.Rules.{rules}
 use borrow.Author.Tests.{not-true, not-false}
 use lib.ListN.{length}
-use Rattle.code.specs.laws.Layers.{width-Least}
+use Rattle.code.proofs.laws.Layers.{width-Least}
 use Rattle.code.specs.Segment.{size}
 use Rattle.clean.specs.Clean.{may_end}
 use Rattle.clean.proofs.Segment.{size_data, stands_not, ends_not, stands_there, too_short, marker_fails, tail_decides, from_to}

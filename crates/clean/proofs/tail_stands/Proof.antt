@@ -4,7 +4,7 @@ use borrow.Author.Rules.{rules}
 use borrow.Author.Tests.{not-true, not-false}
 use Prim.Native.Nat.{◌-◌}
 use lib.ListN.{take, drop}
-use Rattle.code.specs.laws.Segment.{check_below}
+use Rattle.code.proofs.laws.Segment.{check_below}
 use Rattle.layers.specs.declared.Summed.{Summed}
 use Rattle.clean.proofs.Syndromes.{last_place, separator_there}
 use Rattle.clean.proofs.Segment.{front_fails, front_holds}

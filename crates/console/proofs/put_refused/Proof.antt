@@ -1,7 +1,7 @@
 use native.Mathlib.Omega.{arith}
 use borrow.Author.Rules.{rules}
-use Rattle.text.specs.laws.Decimal.{length-decimal}
-use Rattle.text.specs.laws.Put.{Appended-both}
+use Rattle.text.proofs.laws.Decimal.{length-decimal}
+use Rattle.text.proofs.laws.Put.{Appended-both}
 use Rattle.console.specs.RefusedLine.{refused_line}
 use Rattle.console.proofs.put_refused.Statement.{statement}
 use Rattle.console.proofs.put_refused.Tie as tie

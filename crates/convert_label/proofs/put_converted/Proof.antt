@@ -1,6 +1,6 @@
 use native.Mathlib.Omega.{arith}
 use borrow.Author.Rules.{rules}
-use Rattle.text.specs.laws.Put.{Appended-both}
+use Rattle.text.proofs.laws.Put.{Appended-both}
 use Rattle.convert_label.proofs.Shown.{label_shown, refused_shown, digits_most}
 use Rattle.convert_label.proofs.put_converted.Statement.{statement}
 use Rattle.convert_label.proofs.put_converted.Tie as tie

@@ -4,7 +4,7 @@ use native.Mathlib.Omega.{arith}
 use lib.ListN.{length, take, drop, length-set}
 use lib.Seq.{take-length}
 use Rattle.code.specs.Buffers.{put_at}
-use Rattle.code.specs.laws.Lists.{put_nothing}
+use Rattle.code.proofs.laws.Lists.{put_nothing}
 use Rattle.copying.proofs.Blocks.{put_next, put_part}
 use Rattle.copying.proofs.put.Statement.{statement}
 use Rattle.copying.proofs.put.Tie as tie

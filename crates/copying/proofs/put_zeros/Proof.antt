@@ -4,7 +4,7 @@ use native.Mathlib.Numerals.{add-one}
 use native.Mathlib.Omega.{arith}
 use lib.ListN.{length, take, replicate, length-set}
 use lib.Seq.{take_all, take-suc-set}
-use Rattle.code.specs.laws.Lists.{replicate_more}
+use Rattle.code.proofs.laws.Lists.{replicate_more}
 use Rattle.copying.proofs.put_zeros.Statement.{statement}
 use Rattle.copying.proofs.put_zeros.Tie as tie
 

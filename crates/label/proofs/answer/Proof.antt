@@ -1,7 +1,7 @@
 use mathlib.Core.Path.{sym, ◌∙◌}
 use borrow.Author.Rules.{rules}
 use Rattle.code.specs.Order.{order}
-use Rattle.code.specs.laws.Label.{edition_Ordered}
+use Rattle.code.proofs.laws.Label.{edition_Ordered}
 use Rattle.label.proofs.answer.Statement.{statement}
 use Rattle.label.proofs.answer.Tie as tie
 

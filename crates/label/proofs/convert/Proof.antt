@@ -8,10 +8,10 @@ use lib.Seq.{length-take-le}
 use Rattle.code.specs.declared.Checked.TheVariants.{Fine}
 use Rattle.code.specs.Limits.{most_length, most_bytes, old_length, old_bytes}
 use Rattle.code.specs.Order.{Order, test_within}
-use Rattle.code.specs.laws.Order.{Within-fine}
+use Rattle.code.proofs.laws.Order.{Within-fine}
 use Rattle.code.specs.Label.{listing, too_large, old_bits, edition_of, order_of, test_in, label_read_test, order_in}
-use Rattle.code.specs.laws.Label.{Within-old, needed_least, edition_Ordered, label_inside}
-use Rattle.code.specs.laws.LabelTaken.{label_Good}
+use Rattle.code.proofs.laws.Label.{Within-old, needed_least, edition_Ordered, label_inside}
+use Rattle.code.proofs.laws.LabelTaken.{label_Good}
 use Rattle.label.specs.PutBits.{put_call}
 use Rattle.label.proofs.Calls.{answer_test, answer_order, convert_refused, convert_old, convert_large, convert_third}
 use Rattle.label.proofs.convert.Statement.{statement}

@@ -5,8 +5,8 @@ use native.Mathlib.Omega.{arith}
 use borrow.Author.Rules.{rules}
 use lib.ListN.{drop}
 use Rattle.code.specs.Label.{in_bits, bytes_bits, length_bits, field, edition_of}
-use Rattle.code.specs.laws.Bits.{number_least}
-use Rattle.code.specs.laws.Label.{widths}
+use Rattle.code.proofs.laws.Bits.{number_least}
+use Rattle.code.proofs.laws.Label.{widths}
 use Rattle.label.proofs.end_of_lengths.Statement.{statement}
 use Rattle.label.proofs.end_of_lengths.Tie as tie
 

@@ -4,7 +4,7 @@ use Prim.Native.Nat.{ℕ, suc, ◌-◌, ◌≤◌}
 use native.Mathlib.Omega.{arith}
 use lib.ListN.{length, get_or, take, drop, replicate, length-set, length-replicate}
 use lib.Seq.{drop-cons}
-use Rattle.code.specs.laws.Lists.{write_next, write_all}
+use Rattle.code.proofs.laws.Lists.{write_next, write_all}
 use Rattle.label.proofs.Calls.{drop-replicate}
 use Rattle.label.proofs.filled.Statement.{statement}
 use Rattle.label.proofs.filled.Tie as tie

@@ -3,7 +3,7 @@ use borrow.Author.Rules.{rules}
 use borrow.Author.Tests.{lt-leb, ne_eqb}
 use lib.ListN.{length}
 use Rattle.code.specs.Label as L
-use Rattle.code.specs.laws.Label.{needed_least}
+use Rattle.code.proofs.laws.Label.{needed_least}
 use Rattle.label.proofs.is_whole.Statement.{statement}
 use Rattle.label.proofs.is_whole.Tie as tie
 

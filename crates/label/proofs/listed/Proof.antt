@@ -5,7 +5,7 @@ use native.Mathlib.Omega.{arith}
 use lib.ListN.{length, take, drop, length-set, length-replicate}
 use lib.Pow.{pow_mono}
 use Rattle.code.specs.Label.{in_bits, from_bits}
-use Rattle.code.specs.laws.Bits.{number_least}
+use Rattle.code.proofs.laws.Bits.{number_least}
 use Rattle.label.proofs.Fields.{list_next, list_all}
 use Rattle.label.proofs.listed.Statement.{statement}
 use Rattle.label.proofs.listed.Tie as tie

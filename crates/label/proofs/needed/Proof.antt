@@ -3,7 +3,7 @@ use mathlib.Core.Bool.{true, false}
 use native.Mathlib.Omega.{arith}
 use borrow.Author.Rules.{rules}
 use Rattle.code.specs.Label.{edition_of, lists}
-use Rattle.code.specs.laws.Label.{end_most}
+use Rattle.code.proofs.laws.Label.{end_most}
 use Rattle.label.proofs.needed.Statement.{statement}
 use Rattle.label.proofs.needed.Tie as tie
 

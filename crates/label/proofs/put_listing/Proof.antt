@@ -5,7 +5,7 @@ use borrow.Author.Rules.{rules}
 use lib.ListN.{length}
 use Rattle.code.specs.Layers.{Word}
 use Rattle.code.specs.Order.{order}
-use Rattle.code.specs.laws.Label.{widths, Fits-in}
+use Rattle.code.proofs.laws.Label.{widths, Fits-in}
 use Rattle.label.specs.PutBits.{put_call}
 use Rattle.label.proofs.Calls.{Firsts, firsts, listing-bits}
 use Rattle.label.proofs.put_listing.Statement.{statement}

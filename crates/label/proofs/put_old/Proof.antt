@@ -5,8 +5,8 @@ use borrow.Author.Rules.{rules}
 use Rattle.code.specs.Limits.{old_length, old_bytes}
 use Rattle.code.specs.Layers.{Word}
 use Rattle.code.specs.Order.{order}
-use Rattle.code.specs.laws.Order.{Within, fine_Within}
-use Rattle.code.specs.laws.Label.{Lengths-first, bits_other}
+use Rattle.code.proofs.laws.Order.{Within, fine_Within}
+use Rattle.code.proofs.laws.Label.{Lengths-first, bits_other}
 use Rattle.label.specs.PutBits.{put_call}
 use Rattle.label.proofs.Calls.{equal-bits}
 use Rattle.label.proofs.put_old.Statement.{statement}

@@ -6,7 +6,7 @@ use borrow.Author.Rules.{rules}
 use borrow.Author.Tests.{ltb-false}
 use lib.ListN.{length}
 use Rattle.code.specs.Label as L
-use Rattle.code.specs.laws.Label.{needed_least}
+use Rattle.code.proofs.laws.Label.{needed_least}
 use Rattle.label.proofs.Calls.{read_short, read_unknown}
 use Rattle.label.proofs.read.Statement.{statement}
 use Rattle.label.proofs.read.Tie as tie

@@ -4,8 +4,8 @@ use native.Mathlib.Omega.{arith}
 use borrow.Author.Rules.{rules}
 use lib.ListN.{drop, take, replicate}
 use Rattle.code.specs.Label.{in_bits}
-use Rattle.code.specs.laws.Lists.{take-replicate}
-use Rattle.code.specs.laws.Bits.{number_least}
+use Rattle.code.proofs.laws.Lists.{take-replicate}
+use Rattle.code.proofs.laws.Bits.{number_least}
 use Rattle.label.proofs.Calls.{read_spare1, read_order1}
 use Rattle.label.proofs.read1.Statement.{statement}
 use Rattle.label.proofs.read1.Tie as tie

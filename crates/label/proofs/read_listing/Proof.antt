@@ -5,8 +5,8 @@ use native.Mathlib.Omega.{arith}
 use borrow.Author.Rules.{rules}
 use lib.ListN.{length, drop, take}
 use Rattle.code.specs.Label.{in_bits, from_bits, bytes_for, spare, bytes_bits, length_bits, field, edition_of, lists, bytes_in, count_in, end_of_lengths, lengths_in}
-use Rattle.code.specs.laws.Bits.{number_least}
-use Rattle.code.specs.laws.Label.{widths, end_most, needed_least}
+use Rattle.code.proofs.laws.Bits.{number_least}
+use Rattle.code.proofs.laws.Label.{widths, end_most, needed_least}
 use Rattle.label.proofs.Calls.{listing_room, read_spare, read_equal, read_listed}
 use Rattle.label.proofs.read_listing.Statement.{statement}
 use Rattle.label.proofs.read_listing.Tie as tie

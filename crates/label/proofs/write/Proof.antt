@@ -4,8 +4,8 @@ use borrow.Author.Rules.{rules}
 use Rattle.code.specs.declared.Checked.TheVariants.{Fine}
 use Rattle.code.specs.Limits.{old_length, old_bytes}
 use Rattle.code.specs.Order.{order, order_test}
-use Rattle.code.specs.laws.Order.{order_fine, Within-fine}
-use Rattle.code.specs.laws.Label.{Within-old, bits_old, bits_large}
+use Rattle.code.proofs.laws.Order.{order_fine, Within-fine}
+use Rattle.code.proofs.laws.Label.{Within-old, bits_old, bits_large}
 use Rattle.label.proofs.Calls.{call_refused, call_put}
 use Rattle.label.proofs.write.Statement.{statement}
 use Rattle.label.proofs.write.Tie as tie

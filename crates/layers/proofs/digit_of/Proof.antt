@@ -3,7 +3,7 @@ use Prim.Native.Nat.{◌/◌, ◌^◌}
 use native.Mathlib.Omega.{arith}
 use borrow.Author.Rules.{rules}
 use lib.Bits.{and_mask, mask_lt}
-use Rattle.code.specs.laws.Layers.{digit-bit}
+use Rattle.code.proofs.laws.Layers.{digit-bit}
 use Rattle.layers.proofs.digit_of.Statement.{statement}
 use Rattle.layers.proofs.digit_of.Tie as tie
 

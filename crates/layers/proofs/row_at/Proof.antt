@@ -6,7 +6,7 @@ use borrow.Author.Rules.{rules}
 use lib.ListN.{length, take, drop, length-drop}
 use lib.Seq.{length-take-le}
 use Rattle.code.specs.Symbols.{Below}
-use Rattle.code.specs.laws.Below.{Below-take, Below-drop}
+use Rattle.code.proofs.laws.Below.{Below-take, Below-drop}
 use Rattle.places.specs.Words.{word_of}
 use Rattle.places.proofs.Bytes.{bytes_Below}
 use Rattle.layers.specs.SideBySide.{bytes_of}

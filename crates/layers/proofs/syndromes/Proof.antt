@@ -7,7 +7,7 @@ use lib.Bits.{bit_and, and_mask}
 use lib.Pow.{shl_exact}
 use Rattle.code.specs.Bounds.{widest}
 use Rattle.code.specs.Layers.{sum_of_places, syndrome}
-use Rattle.code.specs.laws.Layers.{length-layer, width-Least}
+use Rattle.code.proofs.laws.Layers.{length-layer, width-Least}
 use Rattle.layers.specs.declared.Layers.{Layers}
 use Rattle.layers.specs.LayerSums.{both}
 use borrow.Author.Rules.{rules}

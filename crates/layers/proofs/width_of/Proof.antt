@@ -1,7 +1,7 @@
 use native.Mathlib.Omega.{arith}
 use borrow.Author.Rules.{rules}
 use lib.Count.{leading_le}
-use Rattle.code.specs.laws.Layers.{width_leading}
+use Rattle.code.proofs.laws.Layers.{width_leading}
 use Rattle.layers.proofs.width_of.Statement.{statement}
 use Rattle.layers.proofs.width_of.Tie as tie
 

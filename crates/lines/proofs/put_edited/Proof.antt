@@ -2,9 +2,9 @@ use native.Mathlib.Omega.{arith}
 use borrow.Author.Rules.{rules}
 use lib.ListN.{length-append}
 use Rattle.text.specs.Decimal.{decimal}
-use Rattle.text.specs.laws.Put.{Appended-both}
+use Rattle.text.proofs.laws.Put.{Appended-both}
 use Rattle.lines.specs.Report.{edited}
-use Rattle.lines.specs.laws.Lines.{length-edited}
+use Rattle.lines.proofs.laws.Lines.{length-edited}
 use Rattle.lines.proofs.put_edited.Statement.{statement}
 use Rattle.lines.proofs.put_edited.Tie as tie
 

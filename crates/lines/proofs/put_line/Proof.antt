@@ -1,8 +1,8 @@
 use native.Mathlib.Omega.{arith}
 use borrow.Author.Rules.{rules}
-use Rattle.text.specs.laws.Put.{Appended-both}
+use Rattle.text.proofs.laws.Put.{Appended-both}
 use Rattle.lines.specs.Report.{segment_line}
-use Rattle.lines.specs.laws.Lines.{length_line}
+use Rattle.lines.proofs.laws.Lines.{length_line}
 use Rattle.lines.proofs.put_line.Statement.{statement}
 use Rattle.lines.proofs.put_line.Tie as tie
 

@@ -1,7 +1,7 @@
 use mathlib.Core.Path.{ap, ◌∙◌}
 use Prim.Native.Nat.{ℕ, ◌+◌}
 use native.Mathlib.Omega.{arith}
-use Rattle.places.specs.laws.Offsets.{tried_small}
+use Rattle.places.proofs.laws.Offsets.{tried_small}
 use Rattle.message.proofs.Separators.{tried_shift}
 use Rattle.message.proofs.after_separator.Statement.{statement}
 use Rattle.message.proofs.after_separator.Tie as tie

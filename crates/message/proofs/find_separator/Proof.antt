@@ -6,7 +6,7 @@ use borrow.Author.Count.{below_none, below_more}
 use lib.ListN.{drop}
 use Rattle.code.specs.Reading.{three_equal}
 use Rattle.places.specs.Offsets.{tried_at}
-use Rattle.places.specs.laws.Offsets.{tried_small}
+use Rattle.places.proofs.laws.Offsets.{tried_small}
 use Rattle.message.proofs.Separators.{found_at, found_none, moved_test}
 use Rattle.message.proofs.find_separator.Statement.{statement}
 use Rattle.message.proofs.find_separator.Tie as tie

@@ -6,7 +6,7 @@ use native.Mathlib.Omega.{arith}
 use lib.ListN.{length, take, drop}
 use lib.Seq.{drop-drop}
 use Rattle.code.specs.Reading.{read_hit, message}
-use Rattle.places.specs.laws.Offsets.{tried_small}
+use Rattle.places.proofs.laws.Offsets.{tried_small}
 use Rattle.message.proofs.RepairedLayers.{is_lost, is_read_message}
 use Rattle.message.proofs.Separators.{tried_shift, found-Moved, found_missing}
 use Rattle.message.proofs.Steps3to7.{hit_room}

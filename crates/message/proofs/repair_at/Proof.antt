@@ -3,12 +3,12 @@ use mathlib.Core.Path.{◌≡◌, refl, sym, ap, ◌∙◌}
 use Prim.Native.Nat.{ℕ, ◌+◌, ◌-◌, ◌≤◌, ◌<◌}
 use native.Mathlib.Omega.{arith}
 use lib.ListN.{length, drop}
-use Rattle.code.specs.laws.Below.{Below-take, Below-drop}
+use Rattle.code.proofs.laws.Below.{Below-take, Below-drop}
 use Rattle.code.specs.Layers.{sum_of_places}
 use Rattle.code.specs.Reading.{moved}
-use Rattle.code.specs.laws.Segment.{width_two}
+use Rattle.code.proofs.laws.Segment.{width_two}
 use Rattle.places.specs.Offsets.{tried_at}
-use Rattle.places.specs.laws.Offsets.{tried_small}
+use Rattle.places.proofs.laws.Offsets.{tried_small}
 use Rattle.layers.specs.LayerSums.{both}
 use Rattle.message.specs.MessageAnswers.{shift_of}
 use Rattle.message.proofs.RepairedLayers.{is_lost, is_read_message}

@@ -1,6 +1,6 @@
 use borrow.Author.Rules.{rules}
 use lib.ListN.{length, drop}
-use Rattle.code.specs.laws.Below.{Below-take, Below-drop}
+use Rattle.code.proofs.laws.Below.{Below-take, Below-drop}
 use Rattle.message.proofs.taken_with.Statement.{statement}
 use Rattle.message.proofs.taken_with.Tie as tie
 

@@ -3,9 +3,9 @@ use mathlib.Core.List.{◌++◌}
 use Prim.Native.Nat.{◌+◌, ◌-◌, ◌*◌, ◌≤◌}
 use native.Mathlib.Omega.{arith}
 use lib.ListN.{length, take, drop, length-set}
-use Rattle.code.specs.laws.Lists.{write_all}
+use Rattle.code.proofs.laws.Lists.{write_all}
 use Rattle.code.specs.Symbols.{bytes}
-use Rattle.code.specs.laws.Symbols.{length-bytes}
+use Rattle.code.proofs.laws.Symbols.{length-bytes}
 use Rattle.packing.proofs.Words.{word_symbols}
 use Rattle.packing.proofs.Loops.{pack_step}
 use Rattle.packing.proofs.pack.Statement.{statement}

@@ -4,9 +4,9 @@ use Prim.Native.Nat.{◌+◌, ◌-◌, ◌*◌, ◌/◌, ◌<◌, ◌≤◌}
 use native.Mathlib.Omega.{arith}
 use lib.ListN.{length, take, drop, length-set}
 use lib.Seq.{length-take-le}
-use Rattle.code.specs.laws.Lists.{put_four, write_all}
+use Rattle.code.proofs.laws.Lists.{put_four, write_all}
 use Rattle.code.specs.Symbols.{symbols}
-use Rattle.code.specs.laws.Symbols.{length-symbols}
+use Rattle.code.proofs.laws.Symbols.{length-symbols}
 use Rattle.packing.proofs.Words.{mask_byte, word_bytes}
 use Rattle.packing.proofs.Loops.{symbols_next}
 use Rattle.packing.proofs.unpack.Statement.{statement}

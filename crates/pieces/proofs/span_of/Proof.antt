@@ -6,7 +6,7 @@ use borrow.Author.Rules.{rules}
 use lib.ListN.{length, drop, replicate}
 use mathlib.Core.List.{List}
 use Rattle.code.specs.Order.{Order, order}
-use Rattle.code.specs.laws.Order.{Ordered, order_fine}
+use Rattle.code.proofs.laws.Order.{Ordered, order_fine}
 use Rattle.code.specs.declared.Located.TheVariants.{At}
 use Rattle.reading.proofs.Fronts.{lent_entries}
 use Rattle.reading.proofs.Spans.{span_end, span_start, span_inside, ends_array}

@@ -4,7 +4,7 @@ use native.Mathlib.Omega.{arith}
 use borrow.Author.Rules.{rules}
 use lib.ListN.{length}
 use Rattle.code.specs.Limits.{most_length}
-use Rattle.code.specs.laws.Starts.{in_numbers_lem}
+use Rattle.code.proofs.laws.Starts.{in_numbers_lem}
 use Rattle.quote.proofs.Starts.{above_most, starts_fit}
 use Rattle.quote.proofs.most_starts.Statement.{statement}
 use Rattle.quote.proofs.most_starts.Tie as tie

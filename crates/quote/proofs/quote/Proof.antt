@@ -8,9 +8,9 @@ use Rattle.code.specs.declared.Checked.TheVariants.{Fine}
 use Rattle.code.specs.declared.Quoted.TheVariants.{Numbers}
 use Rattle.code.specs.Limits.{most_written}
 use Rattle.code.specs.Order.{Order, order, order_test}
-use Rattle.code.specs.laws.Order.{Ordered, order_fine}
-use Rattle.code.specs.laws.WithinLimits.{extent_most}
-use Rattle.code.specs.laws.Starts.{most_starts_lem}
+use Rattle.code.proofs.laws.Order.{Ordered, order_fine}
+use Rattle.code.proofs.laws.WithinLimits.{extent_most}
+use Rattle.code.proofs.laws.Starts.{most_starts_lem}
 use Rattle.quote.proofs.quote.Statement.{statement}
 use Rattle.quote.proofs.quote.Tie as tie
 

@@ -2,7 +2,7 @@ use mathlib.Core.List.{append_assoc}
 use native.Mathlib.Omega.{arith}
 use borrow.Author.Rules.{rules}
 use Rattle.code.specs.Order.{order}
-use Rattle.text.specs.laws.Put.{Appended-both}
+use Rattle.text.proofs.laws.Put.{Appended-both}
 use Rattle.read_strand.proofs.Shown.{counts_shown, refused_shown, digits_most}
 use Rattle.read_strand.proofs.put_reading.Statement.{statement}
 use Rattle.read_strand.proofs.put_reading.Tie as tie

@@ -6,9 +6,9 @@ use Rattle.code.specs.declared.Checked.TheVariants.{Fine}
 use Rattle.code.specs.declared.Decoded.TheVariants as D
 use Rattle.code.specs.Symbols.{decoded}
 use Rattle.code.specs.Order.{Order, order}
-use Rattle.code.specs.laws.Order.{order_fine}
+use Rattle.code.proofs.laws.Order.{order_fine}
 use Rattle.code.specs.ReadCall.{received_test, short_buffers}
-use Rattle.code.specs.laws.ReadCall.{received_fine, received_refused, read_short, read_foreign, read_fine}
+use Rattle.code.proofs.laws.ReadCall.{received_fine, received_refused, read_short, read_foreign, read_fine}
 use Rattle.symbols.proofs.Decoded.{decoded_inside, decoded_front, decoded_length, decoded_unknown}
 use Rattle.reader.proofs.Calls.{read_is}
 use borrow.Author.Rules.{rules}

@@ -7,16 +7,16 @@ use borrow.Author.Rules.{rules}
 use lib.ListN.{length, take, drop, replicate, length-take}
 use lib.Seq.{length-take-le}
 use Rattle.code.specs.Symbols.{bytes}
-use Rattle.code.specs.laws.Symbols.{length-bytes}
-use Rattle.code.specs.laws.Layout.{Lengths-within}
+use Rattle.code.proofs.laws.Symbols.{length-bytes}
+use Rattle.code.proofs.laws.Layout.{Lengths-within}
 use Rattle.code.specs.Order.{Order, order}
-use Rattle.code.specs.laws.Order.{Ordered, order_fine}
+use Rattle.code.proofs.laws.Order.{Ordered, order_fine}
 use Rattle.code.specs.Sheet.{marks_of, sheet_of, counts_of, sheet_bytes}
 use Rattle.code.specs.Strands.{outcomes, messages_of, verdicts_of}
 use Rattle.code.specs.Verdicts.{verdict_number, verdict_of}
-use Rattle.code.specs.laws.Verdicts.{marks_back}
-use Rattle.code.specs.laws.MessageBelow.{messages_Below, marks_Below}
-use Rattle.code.specs.laws.ReadCall.{length_sheet}
+use Rattle.code.proofs.laws.Verdicts.{marks_back}
+use Rattle.code.proofs.laws.MessageBelow.{messages_Below, marks_Below}
+use Rattle.code.proofs.laws.ReadCall.{length_sheet}
 use Rattle.reading.proofs.Fronts.{lent_entries, Front, Front-put, Front-Below, over_front_lem, messages_length, numbers_length, marks_length}
 use Rattle.reader.proofs.Calls.{room}
 use Rattle.reader.proofs.read_letters.Statement.{statement}

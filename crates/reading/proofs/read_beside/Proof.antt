@@ -1,7 +1,7 @@
 use mathlib.Core.Path.{sym, ap, ◌∙◌}
 use borrow.Author.Rules.{rules}
 use lib.ListN.{length}
-use Rattle.code.specs.laws.Letters.{length_as}
+use Rattle.code.proofs.laws.Letters.{length_as}
 use Rattle.reading.proofs.Fronts.{front_symbols, front_Received}
 use Rattle.reading.proofs.read_beside.Statement.{statement}
 use Rattle.reading.proofs.read_beside.Tie as tie

@@ -1,6 +1,6 @@
 use mathlib.Core.Path.{sym, ◌∙◌}
 use borrow.Author.Rules.{rules}
-use Rattle.code.specs.laws.Letters.{as_known}
+use Rattle.code.proofs.laws.Letters.{as_known}
 use Rattle.reading.proofs.Fronts.{known_Received}
 use Rattle.reading.proofs.read_layout.Statement.{statement}
 use Rattle.reading.proofs.read_layout.Tie as tie

@@ -3,9 +3,9 @@ use mathlib.Core.Bool.{false}
 use native.Mathlib.Omega.{arith}
 use borrow.Author.Rules.{rules}
 use lib.Seq.{length-take-le}
-use Rattle.code.specs.laws.Layout.{Lengths-within}
+use Rattle.code.proofs.laws.Layout.{Lengths-within}
 use Rattle.code.specs.Order.{order}
-use Rattle.code.specs.laws.Order.{order_fine}
+use Rattle.code.proofs.laws.Order.{order_fine}
 use Rattle.reading.proofs.read_order.Statement.{statement}
 use Rattle.reading.proofs.read_order.Tie as tie
 

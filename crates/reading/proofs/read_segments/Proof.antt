@@ -2,8 +2,8 @@ use mathlib.Core.Path.{ap}
 use native.Mathlib.Omega.{arith}
 use borrow.Author.Rules.{rules}
 use lib.ListN.{length}
-use Rattle.code.specs.laws.Letters.{as_length}
-use Rattle.code.specs.laws.Lists.{first_rest}
+use Rattle.code.proofs.laws.Letters.{as_length}
+use Rattle.code.proofs.laws.Lists.{first_rest}
 use Rattle.reading.proofs.Walk.{Walk, Walk-begin, walk_small, walk_inside, walk_room, walk_asks, walk_Numbered, walk_piece, walk_known, walk_number, Walk-turn, Walk-end}
 use Rattle.reading.proofs.read_segments.Statement.{statement}
 use Rattle.reading.proofs.read_segments.Tie as tie

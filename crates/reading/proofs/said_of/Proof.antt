@@ -2,7 +2,7 @@ use mathlib.Core.Path.{sym, ap, ◌∙◌}
 use borrow.Author.Rules.{rules}
 use borrow.Author.Tests.{not-true}
 use Rattle.code.specs.Verdicts.{verdict_number, verdict_of}
-use Rattle.code.specs.laws.Strands.{told_known}
+use Rattle.code.proofs.laws.Strands.{told_known}
 use Rattle.reading.proofs.Said.{said_edited, said_exact}
 use Rattle.reading.proofs.said_of.Statement.{statement}
 use Rattle.reading.proofs.said_of.Tie as tie

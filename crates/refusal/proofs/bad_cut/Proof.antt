@@ -4,7 +4,7 @@ use borrow.Author.Rules.{rules}
 use lib.ListN.{length}
 use Rattle.code.specs.Limits.{most_segments}
 use Rattle.code.specs.Refusals.{outside}
-use Rattle.code.specs.laws.Refusals.{outside_not}
+use Rattle.code.proofs.laws.Refusals.{outside_not}
 use Rattle.refusal.proofs.bad_cut.Statement.{statement}
 use Rattle.refusal.proofs.bad_cut.Tie as tie
 

@@ -4,9 +4,9 @@ use Rattle.code.specs.declared.Refusal.TheVariants.{Overlong}
 use Rattle.code.specs.declared.Checked.TheVariants.{Fine}
 use Rattle.code.specs.Refusals.{refuse}
 use Rattle.code.specs.Order.{order}
-use Rattle.code.specs.laws.Order.{order_then, order_refused}
+use Rattle.code.proofs.laws.Order.{order_then, order_refused}
 use Rattle.code.specs.ReadCall.{overlong}
-use Rattle.code.specs.laws.ReadCall.{fine_received}
+use Rattle.code.proofs.laws.ReadCall.{fine_received}
 use borrow.Author.Tests.{lt-ltb}
 use borrow.Author.Rules.{rules}
 use Rattle.refusal.proofs.received_test.Statement.{statement}

@@ -3,7 +3,7 @@ use Prim.Native.Nat.{◌+◌, ◌-◌, ◌≤◌}
 use native.Mathlib.Omega.{arith}
 use lib.ListN.{length, drop}
 use Rattle.code.specs.Layout.{sum}
-use Rattle.code.specs.laws.Layout.{sum_most}
+use Rattle.code.proofs.laws.Layout.{sum_most}
 use Rattle.refusal.proofs.Lengths.{sum_turn, sum_end}
 use Rattle.refusal.proofs.sum_of.Statement.{statement}
 use Rattle.refusal.proofs.sum_of.Tie as tie

@@ -3,10 +3,10 @@ use mathlib.Core.Bool.{true, false, ◌||◌}
 use mathlib.Core.Logic.{⊎_elim}
 use native.Mathlib.Omega.{arith}
 use Rattle.code.specs.Refusals.{outside}
-use Rattle.code.specs.laws.Refusals.{outside_not}
-use Rattle.code.specs.laws.Layout.{Lengths-within}
+use Rattle.code.proofs.laws.Refusals.{outside_not}
+use Rattle.code.proofs.laws.Layout.{Lengths-within}
 use Rattle.code.specs.Order.{order, bad_length, bad_cut}
-use Rattle.code.specs.laws.Order.{Lengths-not}
+use Rattle.code.proofs.laws.Order.{Lengths-not}
 use Rattle.refusal.proofs.test_within.Statement.{statement}
 use Rattle.refusal.proofs.test_within.Tie as tie
 

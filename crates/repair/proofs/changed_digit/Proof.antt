@@ -5,7 +5,7 @@ use borrow.Author.Rules.{rules}
 use lib.ListN.{get_or, set}
 use lib.Seq.{get_or-set_same, get_or-set_other}
 use Rattle.code.specs.Layers.{bit, layer}
-use Rattle.code.specs.laws.Layers.{length-layer, layer_at_lem}
+use Rattle.code.proofs.laws.Layers.{length-layer, layer_at_lem}
 use Rattle.repair.proofs.MendedBits.{digit_is, byte_is}
 use Rattle.repair.proofs.changed_digit.Statement.{statement}
 use Rattle.repair.proofs.changed_digit.Tie as tie

@@ -6,7 +6,7 @@ use Prim.Native.Nat.{◌-◌}
 use lib.ListN.{get_or}
 use Rattle.code.specs.Repair.{put_in}
 use Rattle.code.specs.Layers.{bit, layer}
-use Rattle.code.specs.laws.Layers.{length-layer, layer_at_lem}
+use Rattle.code.proofs.laws.Layers.{length-layer, layer_at_lem}
 use Rattle.repair.proofs.MendedBits.{digit_is, byte_is, put_before, put_here, put_behind}
 use Rattle.repair.proofs.less_digit.Statement.{statement}
 use Rattle.repair.proofs.less_digit.Tie as tie

@@ -5,7 +5,7 @@ use native.Mathlib.Omega.{arith}
 use borrow.Author.Count.{falls}
 use lib.ListN.{length, take, length-set}
 use Rattle.code.specs.Layers.{layer}
-use Rattle.code.specs.laws.Layers.{length-layer}
+use Rattle.code.proofs.laws.Layers.{length-layer}
 use Rattle.repair.proofs.Stretches.{Mended, inside, Places, places, rest_few, stretch_before, stretch_between, stretch_Behind}
 use Rattle.repair.proofs.mended_pair.Statement.{statement}
 use Rattle.repair.proofs.mended_pair.Tie as tie

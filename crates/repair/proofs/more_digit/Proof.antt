@@ -7,7 +7,7 @@ use Prim.Native.Nat.{◌+◌}
 use lib.ListN.{get_or}
 use Rattle.code.specs.Repair.{leave_out}
 use Rattle.code.specs.Layers.{bit, layer}
-use Rattle.code.specs.laws.Layers.{length-layer, layer_at_lem}
+use Rattle.code.proofs.laws.Layers.{length-layer, layer_at_lem}
 use Rattle.repair.proofs.MendedBits.{digit_is, leave_before, leave_behind}
 use Rattle.repair.proofs.more_digit.Statement.{statement}
 use Rattle.repair.proofs.more_digit.Tie as tie

@@ -3,7 +3,7 @@ use Prim.Native.Nat.{◌-◌, ◌≤◌}
 use native.Mathlib.Omega.{arith}
 use lib.ListN.{length, length-set}
 use Rattle.code.specs.Buffers.{put_at}
-use Rattle.code.specs.laws.Lists.{put_nothing}
+use Rattle.code.proofs.laws.Lists.{put_nothing}
 use Rattle.repair.specs.LayerRepair.{lowest}
 use Rattle.repair.proofs.Stretches.{lowest_none, put_lowest}
 use Rattle.repair.proofs.put_symbols.Statement.{statement}

@@ -5,9 +5,9 @@ use native.Mathlib.Omega.{arith}
 use borrow.Author.Rules.{rules}
 use lib.ListN.{length}
 use Rattle.code.specs.Layers.{layer}
-use Rattle.code.specs.laws.Layers.{length-layer}
+use Rattle.code.proofs.laws.Layers.{length-layer}
 use Rattle.code.specs.Repair.{mended}
-use Rattle.code.specs.laws.Repair.{repair_overlarge}
+use Rattle.code.proofs.laws.Repair.{repair_overlarge}
 use Rattle.code.specs.declared.Link.TheVariants.{Changed}
 use Rattle.repair.proofs.Remainders.{ahead_below}
 use Rattle.repair.proofs.TriedPlaces.{reads_zero, reads_one}

@@ -4,9 +4,9 @@ use Prim.Native.Nat.{◌+◌, ◌-◌, ◌≤◌}
 use native.Mathlib.Omega.{arith}
 use lib.ListN.{length}
 use Rattle.code.specs.Layers.{layer}
-use Rattle.code.specs.laws.Layers.{length-layer}
+use Rattle.code.proofs.laws.Layers.{length-layer}
 use Rattle.code.specs.Repair.{mended}
-use Rattle.code.specs.laws.Repair.{repair_overlarge}
+use Rattle.code.proofs.laws.Repair.{repair_overlarge}
 use Rattle.code.specs.declared.Link.TheVariants.{Less}
 use Rattle.repair.proofs.TriedPlaces.{LessTried, less_begin, less_turn, less_from, ones_few}
 use Rattle.repair.proofs.Repairs.{less_found, less_none}

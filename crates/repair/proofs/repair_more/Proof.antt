@@ -4,9 +4,9 @@ use native.Mathlib.Omega.{arith}
 use lib.Dec.{eqb}
 use lib.ListN.{length}
 use Rattle.code.specs.Layers.{layer}
-use Rattle.code.specs.laws.Layers.{length-layer}
+use Rattle.code.proofs.laws.Layers.{length-layer}
 use Rattle.code.specs.Repair.{mended}
-use Rattle.code.specs.laws.Repair.{repair_overlarge}
+use Rattle.code.proofs.laws.Repair.{repair_overlarge}
 use Rattle.code.specs.declared.Link.TheVariants.{More}
 use Rattle.repair.proofs.TriedPlaces.{MoreTried, more_begin, more_few, more_loss, more_turn, ones_few}
 use Rattle.repair.proofs.Repairs.{more_found, more_none}

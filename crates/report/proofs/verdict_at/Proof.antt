@@ -7,9 +7,9 @@ use borrow.Author.Rules.{rules}
 use lib.ListN.{length, get_or, drop, replicate}
 use Rattle.code.specs.Bounds.{longest}
 use Rattle.code.specs.Layout.{Lengths}
-use Rattle.code.specs.laws.Layout.{Lengths-within}
+use Rattle.code.proofs.laws.Layout.{Lengths-within}
 use Rattle.code.specs.Order.{Order, order}
-use Rattle.code.specs.laws.Order.{Ordered, order_fine}
+use Rattle.code.proofs.laws.Order.{Ordered, order_fine}
 use Rattle.code.specs.Strands.{outcomes}
 use Rattle.reading.specs.Walks.{start_in}
 use Rattle.reading.proofs.Fronts.{lent_entries}

@@ -6,12 +6,12 @@ use lib.ListN.{length}
 use Rattle.code.specs.declared.Checked.TheVariants.{Fine}
 use Rattle.code.specs.declared.Decoded.TheVariants as D
 use Rattle.code.specs.Symbols.{Below, letter_kinds, decoded}
-use Rattle.code.specs.laws.Symbols.{legible-Below}
-use Rattle.code.specs.laws.Refusals.{outside_not}
+use Rattle.code.proofs.laws.Symbols.{legible-Below}
+use Rattle.code.proofs.laws.Refusals.{outside_not}
 use Rattle.code.specs.Order.{Order, order}
-use Rattle.code.specs.laws.Order.{order_fine}
+use Rattle.code.proofs.laws.Order.{order_fine}
 use Rattle.code.specs.ReadCall.{received_test}
-use Rattle.code.specs.laws.ReadCall.{received_fine, received_refused, piece_foreign, piece_outside, piece_fine}
+use Rattle.code.proofs.laws.ReadCall.{received_fine, received_refused, piece_foreign, piece_outside, piece_fine}
 use Rattle.symbols.proofs.Decoded.{decoded_inside, decoded_front, decoded_length, decoded_unknown}
 use Rattle.report.proofs.Calls.{verdict_is}
 use borrow.Author.Rules.{rules}

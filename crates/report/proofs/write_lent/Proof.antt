@@ -6,11 +6,11 @@ use lib.ListN.{length}
 use Rattle.code.specs.declared.Checked.TheVariants.{Fine}
 use Rattle.code.specs.declared.Decoded.TheVariants as D
 use Rattle.code.specs.Symbols.{Below, letter_kinds, decoded}
-use Rattle.code.specs.laws.Symbols.{legible-Below}
+use Rattle.code.proofs.laws.Symbols.{legible-Below}
 use Rattle.code.specs.Order.{Order, order}
-use Rattle.code.specs.laws.Order.{order_fine}
+use Rattle.code.proofs.laws.Order.{order_fine}
 use Rattle.code.specs.ReadCall.{received_test}
-use Rattle.code.specs.laws.ReadCall.{received_fine, received_refused}
+use Rattle.code.proofs.laws.ReadCall.{received_fine, received_refused}
 use Rattle.symbols.proofs.Decoded.{decoded_inside, decoded_front, decoded_length, decoded_unknown}
 use Rattle.report.proofs.Calls.{report_foreign, report_is}
 use Rattle.report.proofs.write_lent.Statement.{statement}

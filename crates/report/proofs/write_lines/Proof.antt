@@ -8,13 +8,13 @@ use lib.ListN.{length, take, drop, replicate}
 use lib.Seq.{length-take-le}
 use Rattle.code.specs.Bounds.{longest}
 use Rattle.code.specs.Layout.{Lengths}
-use Rattle.code.specs.laws.Layout.{Lengths-within}
+use Rattle.code.proofs.laws.Layout.{Lengths-within}
 use Rattle.code.specs.Order.{Order, order}
-use Rattle.code.specs.laws.Order.{Ordered, order_fine}
+use Rattle.code.proofs.laws.Order.{Ordered, order_fine}
 use Rattle.code.specs.Strands.{outcomes}
 use Rattle.reading.proofs.Fronts.{lent_entries}
 use Rattle.lines.specs.Report.{lines_from, lines_of, most_report}
-use Rattle.report.specs.laws.Named.{lines_room}
+use Rattle.report.proofs.laws.Named.{lines_room}
 use Rattle.report.proofs.Outcomes.{Fronts, in_front, Reports, found_reports, numbers_long, places_long}
 use Rattle.report.proofs.Calls.{short_report, whole_report}
 use Rattle.report.proofs.write_lines.Statement.{statement}

@@ -4,7 +4,7 @@ use borrow.Author.Rules.{rules}
 use lib.ListN.{length}
 use lib.Seq.{length-take-le}
 use Rattle.text.specs.Lines.{line}
-use Rattle.console.specs.laws.LabelLine.{line_inside, lines_taken, lines_refused}
+use Rattle.console.proofs.laws.LabelLine.{line_inside, lines_taken, lines_refused}
 use Rattle.report_strand.specs.ReportOutput.{report_text, report_output}
 use Rattle.report_strand.proofs.output.Statement.{statement}
 use Rattle.report_strand.proofs.output.Tie as tie

@@ -7,12 +7,12 @@ use borrow.Author.Tests.{not-true, not-false}
 use lib.ListN.{length, take, drop}
 use lib.Seq.{drop-drop}
 use Rattle.code.specs.Symbols.{as_symbols, has_unknown}
-use Rattle.code.specs.laws.Letters.{as_Below}
+use Rattle.code.proofs.laws.Letters.{as_Below}
 use Rattle.code.specs.Segment.{size}
 use Rattle.code.specs.Reading.{clean}
 use Rattle.scan.specs.declared.Next.TheVariants.{Clean}
 use Rattle.scan.specs.Scans.{letter_before}
-use Rattle.scan.specs.laws.Scans.{clean_known, clean_unknown, unclean, unequal_unclean, repeated_unclean, unseparated_unclean, letter_below}
+use Rattle.scan.proofs.laws.Scans.{clean_known, clean_unknown, unclean, unequal_unclean, repeated_unclean, unseparated_unclean, letter_below}
 use Rattle.scan.proofs.Search.{none_whole, Turn, Turn-begin, turn_end, Turn-past, Turn-zero, Turn-unclean, Turn-pass, turn_found, unmarked, marked, Compared, Compared-begin, Compared-turn, compared_stop, compared_end, size_is, width_small, part_long, part_tail, part_width}
 use Rattle.scan.proofs.find_clean.Statement.{statement}
 use Rattle.scan.proofs.find_clean.Tie as tie

@@ -1,7 +1,7 @@
 use Prim.Native.Nat.{◌-◌}
 use borrow.Author.Rules.{rules}
 use Rattle.scan.specs.Scans.{letter_before}
-use Rattle.scan.specs.laws.Scans.{symbol_at}
+use Rattle.scan.proofs.laws.Scans.{symbol_at}
 use Rattle.scan.proofs.letter_before.Statement.{statement}
 use Rattle.scan.proofs.letter_before.Tie as tie
 

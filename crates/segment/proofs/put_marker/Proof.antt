@@ -1,6 +1,6 @@
 use mathlib.Core.Path.{refl, sym}
 use native.Mathlib.Omega.{arith}
-use Rattle.code.specs.laws.Lists.{put_nothing}
+use Rattle.code.proofs.laws.Lists.{put_nothing}
 use Rattle.segment.proofs.Parts.{mark-true, mark-false, is_marker}
 use borrow.Author.Rules.{rules}
 use Rattle.segment.proofs.put_marker.Statement.{statement}

@@ -2,7 +2,7 @@ use mathlib.Core.Path.{◌∙◌}
 use native.Mathlib.Omega.{arith}
 use lib.ListN.{length}
 use Rattle.code.specs.Bounds.{widest}
-use Rattle.code.specs.laws.Layers.{width-Least}
+use Rattle.code.proofs.laws.Layers.{width-Least}
 use Rattle.segment.proofs.Parts.{mark-size, put_parts}
 use borrow.Author.Rules.{rules}
 use Rattle.segment.proofs.put_segment.Statement.{statement}

@@ -1,7 +1,7 @@
 use native.Mathlib.Omega.{arith}
 use borrow.Author.Rules.{rules}
 use Rattle.code.specs.Bounds.{widest}
-use Rattle.code.specs.laws.Layers.{width-Least}
+use Rattle.code.proofs.laws.Layers.{width-Least}
 use Rattle.code.specs.Segment.{size}
 use Rattle.segment.proofs.size_of.Statement.{statement}
 use Rattle.segment.proofs.size_of.Tie as tie

@@ -2,8 +2,8 @@ use mathlib.Core.Path.{◌∙◌}
 use native.Mathlib.Omega.{arith}
 use lib.ListN.{length}
 use Rattle.code.specs.Bounds.{widest}
-use Rattle.code.specs.laws.Layers.{width-Least}
-use Rattle.code.specs.laws.Segment.{width_two}
+use Rattle.code.proofs.laws.Layers.{width-Least}
+use Rattle.code.proofs.laws.Segment.{width_two}
 use Rattle.tail.proofs.Tails.{tail_last}
 use borrow.Author.Rules.{rules}
 use Rattle.segment.proofs.write_segment.Statement.{statement}

@@ -3,9 +3,9 @@ use mathlib.Core.List.{◌++◌}
 use Prim.Native.Nat.{◌+◌, ◌-◌, ◌≤◌, ◌<◌}
 use native.Mathlib.Omega.{arith}
 use lib.ListN.{length, take, drop, length-set}
-use Rattle.code.specs.laws.Lists.{write_all}
+use Rattle.code.proofs.laws.Lists.{write_all}
 use Rattle.code.specs.Sheet.{sheet_of}
-use Rattle.code.specs.laws.ReadCall.{length_sheet}
+use Rattle.code.proofs.laws.ReadCall.{length_sheet}
 use Rattle.sheet.proofs.Loops.{sheet_step}
 use Rattle.sheet.proofs.pack_sheet.Statement.{statement}
 use Rattle.sheet.proofs.pack_sheet.Tie as tie

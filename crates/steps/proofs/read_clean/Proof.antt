@@ -3,7 +3,7 @@ use mathlib.Core.Bool.{true}
 use Prim.Native.Nat.{◌+◌}
 use borrow.Author.Rules.{rules}
 use lib.ListN.{length}
-use Rattle.code.specs.laws.Letters.{as_length}
+use Rattle.code.proofs.laws.Letters.{as_length}
 use Rattle.steps.specs.declared.Answer.{Answer}
 use Rattle.steps.specs.Steps.{step_at, IsStep}
 use Rattle.steps.proofs.CleanSegments.{clean_stands, m_inside, stands_step}

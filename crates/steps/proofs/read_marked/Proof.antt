@@ -3,7 +3,7 @@ use Prim.Native.Nat.{◌+◌}
 use native.Mathlib.Omega.{arith}
 use borrow.Author.Rules.{rules}
 use lib.ListN.{length}
-use Rattle.code.specs.laws.Letters.{as_length}
+use Rattle.code.proofs.laws.Letters.{as_length}
 use Rattle.layers.specs.LayerSums.{sums_of}
 use Rattle.message.proofs.Steps3to7.{part_is}
 use Rattle.message.proofs.ReceivedParts.{part_length}

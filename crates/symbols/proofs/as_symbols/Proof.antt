@@ -4,7 +4,7 @@ use Prim.Native.Nat.{◌-◌, ◌≤◌}
 use native.Mathlib.Omega.{arith}
 use lib.Bits.{and_mask}
 use lib.ListN.{length, get_or, take, drop, length-set}
-use Rattle.code.specs.laws.Lists.{write_next, write_all}
+use Rattle.code.proofs.laws.Lists.{write_next, write_all}
 use Rattle.code.specs.Symbols.{as_symbols}
 use Rattle.symbols.proofs.Loops.{symbols_next, symbols_all}
 use Rattle.symbols.proofs.as_symbols.Statement.{statement}

@@ -5,7 +5,7 @@ use Prim.Native.Nat.{◌+◌, ◌-◌, ◌<◌}
 use native.Mathlib.Omega.{arith}
 use borrow.Author.Rules.{rules}
 use lib.ListN.{length, get_or, take, drop, length-set}
-use Rattle.code.specs.laws.Lists.{write_next, write_all}
+use Rattle.code.proofs.laws.Lists.{write_next, write_all}
 use Rattle.code.specs.Symbols.{legible}
 use Rattle.symbols.specs.Letters.{is_letter, all_letters}
 use Rattle.symbols.proofs.Loops.{Letters, none_read, legible_next, one_more, length_foreign, foreign_left, foreign_next}

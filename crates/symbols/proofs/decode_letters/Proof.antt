@@ -4,7 +4,7 @@ use mathlib.Core.List.{◌++◌}
 use Prim.Native.Nat.{◌-◌, ◌<◌, ◌≤◌}
 use native.Mathlib.Omega.{arith}
 use lib.ListN.{length, get_or, take, drop, length-set}
-use Rattle.code.specs.laws.Lists.{write_next, write_all}
+use Rattle.code.proofs.laws.Lists.{write_next, write_all}
 use Rattle.code.specs.Symbols.{legible}
 use Rattle.symbols.specs.Letters.{all_letters}
 use Rattle.symbols.proofs.LetterBits.{any_letter}

@@ -4,8 +4,8 @@ use Prim.Native.Nat.{ℕ}
 use native.Mathlib.Omega.{arith}
 use lib.ListN.{length, get_or}
 use Rattle.code.specs.Bounds.{widest}
-use Rattle.code.specs.laws.Layers.{width-Least}
-use Rattle.code.specs.laws.Segment.{check_below, length_syndrome, width_two}
+use Rattle.code.proofs.laws.Layers.{width-Least}
+use Rattle.code.proofs.laws.Segment.{check_below, length_syndrome, width_two}
 use Rattle.tail.proofs.Tails.{is_tail, numbers_paired}
 use borrow.Author.Rules.{rules}
 use Rattle.tail.proofs.tail_given.Statement.{statement}

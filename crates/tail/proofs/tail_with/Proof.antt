@@ -3,8 +3,8 @@ use Prim.Native.Nat.{◌-◌}
 use native.Mathlib.Omega.{arith}
 use lib.ListN.{length}
 use Rattle.code.specs.Bounds.{widest}
-use Rattle.code.specs.laws.Layers.{width-Least}
-use Rattle.code.specs.laws.Segment.{check_below, width_two}
+use Rattle.code.proofs.laws.Layers.{width-Least}
+use Rattle.code.proofs.laws.Segment.{check_below, width_two}
 use Rattle.layers.specs.declared.Summed.{Summed}
 use Rattle.tail.proofs.Tails.{is_tail, syndromes_paired, symbol_from}
 use borrow.Author.Rules.{rules}

@@ -1,7 +1,7 @@
 use native.Mathlib.Omega.{arith}
 use borrow.Author.Rules.{rules}
 use Rattle.code.specs.Order.{order}
-use Rattle.text.specs.laws.Put.{Appended-both}
+use Rattle.text.proofs.laws.Put.{Appended-both}
 use Rattle.write_strand.proofs.Shown.{letters_shown, refused_shown, letters_most}
 use Rattle.write_strand.proofs.put_strand.Statement.{statement}
 use Rattle.write_strand.proofs.put_strand.Tie as tie

@@ -6,8 +6,8 @@ use native.Mathlib.Omega.{arith}
 use lib.ListN.{length, drop}
 use Rattle.code.specs.Limits.{most_length, most_segments}
 use Rattle.code.specs.Layout.{Lengths, extent}
-use Rattle.code.specs.laws.Layout.{Lengths-at, sum_most}
-use Rattle.code.specs.laws.WithinLimits.{extent_line}
+use Rattle.code.proofs.laws.Layout.{Lengths-at, sum_most}
+use Rattle.code.proofs.laws.WithinLimits.{extent_line}
 use Rattle.writer.proofs.Carried.{extent_turn, extent_end, extent_first}
 use Rattle.writer.proofs.extent_of.Statement.{statement}
 use Rattle.writer.proofs.extent_of.Tie as tie

@@ -12,9 +12,9 @@ use Rattle.code.specs.Layout.{extent}
 use Rattle.code.specs.Order.{Order, order, order_test}
 use Rattle.code.specs.Buffers.{over_front}
 use Rattle.code.specs.Writing.{strand_of, write_call}
-use Rattle.code.specs.laws.Order.{Ordered, order_fine}
-use Rattle.code.specs.laws.Layout.{Lengths-within}
-use Rattle.code.specs.laws.Writing.{write_refused, write_short, write_fine, ordered-length}
+use Rattle.code.proofs.laws.Order.{Ordered, order_fine}
+use Rattle.code.proofs.laws.Layout.{Lengths-within}
+use Rattle.code.proofs.laws.Writing.{write_refused, write_short, write_fine, ordered-length}
 use Rattle.writer.proofs.write.Statement.{statement}
 use Rattle.writer.proofs.write.Tie as tie
 

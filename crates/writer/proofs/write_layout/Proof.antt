@@ -1,7 +1,7 @@
 use Prim.Native.Nat.{◌-◌}
 use native.Mathlib.Omega.{arith}
 use lib.ListN.{length, get_or}
-use Rattle.code.specs.laws.Layout.{Lengths-at}
+use Rattle.code.proofs.laws.Layout.{Lengths-at}
 use Rattle.segment.proofs.size_of.Reads as size_of_reads
 use Rattle.segment.proofs.write_segment.Reads as write_segment_reads
 use Rattle.writer.proofs.Written.{Standing, Step, begin, step, turn, end}

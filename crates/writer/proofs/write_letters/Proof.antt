@@ -4,7 +4,7 @@ use native.Mathlib.Omega.{arith}
 use borrow.Author.Rules.{rules}
 use lib.ListN.{length}
 use lib.Seq.{length-take-le}
-use Rattle.code.specs.laws.Symbols.{length-symbols}
+use Rattle.code.proofs.laws.Symbols.{length-symbols}
 use Rattle.writer.proofs.Carried.{Front, unpacked, front_is}
 use Rattle.writer.proofs.write_letters.Statement.{statement}
 use Rattle.writer.proofs.write_letters.Tie as tie

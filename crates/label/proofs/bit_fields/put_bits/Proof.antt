@@ -8,7 +8,7 @@ use lib.ListN.{length, get_or, take, drop, length-set}
 use lib.Pow.{pow_mono}
 use Rattle.code.specs.declared.Wrote.TheVariants as W
 use Rattle.code.specs.Layers.{bits}
-use Rattle.code.specs.laws.Lists.{write_next, write_all, drop_next}
+use Rattle.code.proofs.laws.Lists.{write_next, write_all, drop_next}
 use Rattle.code.specs.Label.{in_bits, in_bytes, bytes_for}
 use Rattle.label.proofs.Putting.{put_length, up, up_below, Left, put_begin, put_fill, put_byte}
 use Rattle.label.proofs.bit_fields.put_bits.Statement.{statement}

@@ -3,7 +3,7 @@ use Prim.Native.Nat.{◌-◌, ◌≤◌}
 use native.Mathlib.Omega.{arith}
 use lib.ListN.{length, drop, get_or}
 use Rattle.code.specs.Label.{all_are}
-use Rattle.code.specs.laws.Refusals.{outside_not}
+use Rattle.code.proofs.laws.Refusals.{outside_not}
 use Rattle.label.proofs.SameLengths.{equal-outside, equal_inside, all_same, all_other, all_end}
 use Rattle.label.proofs.editions.equal.Statement.{statement}
 use Rattle.label.proofs.editions.equal.Tie as tie

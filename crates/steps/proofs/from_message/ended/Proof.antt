@@ -1,7 +1,7 @@
 use mathlib.Core.Path.{refl}
 use borrow.Author.Rules.{rules}
 use lib.ListN.{length}
-use Rattle.code.specs.laws.Letters.{as_length}
+use Rattle.code.proofs.laws.Letters.{as_length}
 use Rattle.steps.proofs.Step9.{named}
 use Rattle.steps.proofs.Answers.{no_end, lost_read, gives_lost, compared_lost, compared_read}
 use Rattle.steps.proofs.Answered.{end_nowhere, end_known}

@@ -1,6 +1,6 @@
 use borrow.Author.Rules.{rules}
 use lib.ListN.{length, drop}
-use Rattle.code.specs.laws.Letters.{as_length}
+use Rattle.code.proofs.laws.Letters.{as_length}
 use Rattle.code.specs.Reading.{read_message}
 use Rattle.steps.proofs.Answers.{read_message-lost, lost_read, gives_lost}
 use Rattle.steps.proofs.Answered.{message_in, message_lost}

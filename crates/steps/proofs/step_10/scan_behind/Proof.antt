@@ -1,7 +1,7 @@
 use native.Mathlib.Omega.{arith}
 use borrow.Author.Rules.{rules}
 use lib.ListN.{length}
-use Rattle.code.specs.laws.Lists.{first_rest}
+use Rattle.code.proofs.laws.Lists.{first_rest}
 use Rattle.steps.proofs.Step10.{size_marked, Sought, Sought-begin, sought_end, sought_past, sought_small, sought_found, Sought-on}
 use Rattle.steps.proofs.step_10.scan_behind.Statement.{statement}
 use Rattle.steps.proofs.step_10.scan_behind.Tie as tie

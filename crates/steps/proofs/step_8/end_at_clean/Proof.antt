@@ -2,7 +2,7 @@ use mathlib.Core.Path.{◌∙◌}
 use native.Mathlib.Omega.{arith}
 use borrow.Author.Rules.{rules}
 use lib.ListN.{length}
-use Rattle.code.specs.laws.Segment.{last_below}
+use Rattle.code.proofs.laws.Segment.{last_below}
 use Rattle.tail.proofs.Tails.{tail_last, tail_width}
 use Rattle.scan.proofs.Starts.{size_room}
 use Rattle.steps.proofs.Step8.{first_length, end_around}

@@ -3,7 +3,7 @@ use Prim.Native.Nat.{ℕ, ◌+◌}
 use native.Mathlib.Omega.{arith}
 use borrow.Author.Rules.{rules}
 use lib.ListN.{length, drop}
-use Rattle.code.specs.laws.Letters.{as_length}
+use Rattle.code.proofs.laws.Letters.{as_length}
 use Rattle.code.specs.Segment.{data_at}
 use Rattle.code.specs.Reading.{moved}
 use Rattle.tail.proofs.Tails.{tail_last, tail_width}

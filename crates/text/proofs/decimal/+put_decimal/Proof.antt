@@ -5,8 +5,8 @@ use borrow.Author.Rules.{rules}
 use borrow.Fn.Kinds.{In}
 use borrow.Fn.PlainCycle.{Measures, is, falls, and}
 use lib.ListN.{length}
-use Rattle.text.specs.laws.Decimal.{decimal_short, decimal_long, length_long}
-use Rattle.text.specs.laws.Put.{Appended-both}
+use Rattle.text.proofs.laws.Decimal.{decimal_short, decimal_long, length_long}
+use Rattle.text.proofs.laws.Put.{Appended-both}
 use Rattle.text.proofs.decimal.put_decimal.Reads as put_decimal
 use Rattle.text.proofs.decimal.put_decimal.Kinds as put_decimal_kinds
 use Rattle.text.proofs.decimal.+put_decimal.Lts-put_decimal as put_decimal_lts

@@ -1,5 +1,5 @@
 use borrow.Author.Rules.{rules}
-use Rattle.text.specs.laws.Put.{Appended-both}
+use Rattle.text.proofs.laws.Put.{Appended-both}
 use Rattle.text.proofs.decimal.put_named.Statement.{statement}
 use Rattle.text.proofs.decimal.put_named.Tie as tie
 

@@ -4,8 +4,8 @@ use native.Mathlib.Omega.{arith}
 use borrow.Author.Rules.{rules}
 use lib.ListN.{length, length-append}
 use Rattle.text.specs.Decimal.{decimal, three_named}
-use Rattle.text.specs.laws.Decimal.{length-decimal}
-use Rattle.text.specs.laws.Put.{Appended-both}
+use Rattle.text.proofs.laws.Decimal.{length-decimal}
+use Rattle.text.proofs.laws.Put.{Appended-both}
 use Rattle.text.proofs.decimal.put_three.Statement.{statement}
 use Rattle.text.proofs.decimal.put_three.Tie as tie
 

@@ -6,7 +6,7 @@ use borrow.Author.Tests.{lt-ltb, le-ltb}
 use lib.Dec.{ltb}
 use lib.ListN.{length, get_or, drop}
 use Rattle.text.specs.HexDigit.{no_digit, value_of, all_digits}
-use Rattle.text.specs.laws.HexDigit.{all_digits_step, all_digits_end}
+use Rattle.text.proofs.laws.HexDigit.{all_digits_step, all_digits_end}
 use Rattle.text.proofs.hex.all_digits.Statement.{statement}
 use Rattle.text.proofs.hex.all_digits.Tie as tie
 

@@ -5,7 +5,7 @@ use borrow.Author.Rules.{rules}
 use borrow.Author.Tests.{eq-eqb, ne_eqb, le-leb, lt-leb, not-true, not-false}
 use Rattle.text.specs.declared.hex.Hex.TheVariants.{Bytes}
 use Rattle.text.specs.HexDigit.{no_digit, all_digits}
-use Rattle.text.specs.laws.Hex.{length-hex_bytes}
+use Rattle.text.proofs.laws.Hex.{length-hex_bytes}
 use Rattle.text.proofs.hex.decode.Statement.{statement}
 use Rattle.text.proofs.hex.decode.Tie as tie
 

@@ -3,9 +3,9 @@ use mathlib.Core.List.{◌++◌}
 use Prim.Native.Nat.{◌+◌, ◌-◌, ◌*◌, ◌≤◌}
 use native.Mathlib.Omega.{arith}
 use lib.ListN.{length, take, drop, length-set}
-use Rattle.code.specs.laws.Lists.{write_all}
+use Rattle.code.proofs.laws.Lists.{write_all}
 use Rattle.text.specs.Hex.{hex_bytes}
-use Rattle.text.specs.laws.Hex.{digit_at, length-hex_bytes}
+use Rattle.text.proofs.laws.Hex.{digit_at, length-hex_bytes}
 use Rattle.text.proofs.Digits.{bytes_step}
 use Rattle.text.proofs.hex.put_bytes.Statement.{statement}
 use Rattle.text.proofs.hex.put_bytes.Tie as tie

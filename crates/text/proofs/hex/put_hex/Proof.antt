@@ -5,8 +5,8 @@ use lib.ListN.{length, take}
 use lib.Seq.{take_all, length-take-le}
 use Rattle.text.specs.Hex.{hex_digits}
 use Rattle.text.specs.Put.{Appended}
-use Rattle.text.specs.laws.Hex.{hex_digits_next, length-hex_digits}
-use Rattle.text.specs.laws.Put.{Appended-nothing, Appended-both}
+use Rattle.text.proofs.laws.Hex.{hex_digits_next, length-hex_digits}
+use Rattle.text.proofs.laws.Put.{Appended-nothing, Appended-both}
 use Rattle.text.proofs.hex.put_hex.Statement.{statement}
 use Rattle.text.proofs.hex.put_hex.Tie as tie
 

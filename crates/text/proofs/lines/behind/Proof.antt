@@ -6,7 +6,7 @@ use borrow.Author.Rules.{rules}
 use lib.ListN.{length, take, drop, length-drop}
 use lib.Seq.{take_all}
 use Rattle.text.specs.Lines.{line_length, behind}
-use Rattle.text.specs.laws.Lines.{line_length-le, drop_line, drop_last}
+use Rattle.text.proofs.laws.Lines.{line_length-le, drop_line, drop_last}
 use Rattle.text.proofs.lines.behind.Statement.{statement}
 use Rattle.text.proofs.lines.behind.Tie as tie
 

@@ -2,7 +2,7 @@ use mathlib.Core.Path.{sym}
 use native.Mathlib.Omega.{arith}
 use borrow.Author.Rules.{rules}
 use lib.Seq.{length-take-le}
-use Rattle.text.specs.laws.Lines.{line_length-le, take-line}
+use Rattle.text.proofs.laws.Lines.{line_length-le, take-line}
 use Rattle.text.proofs.lines.line.Statement.{statement}
 use Rattle.text.proofs.lines.line.Tie as tie
 

@@ -4,7 +4,7 @@ use native.Mathlib.Omega.{arith}
 use borrow.Author.Tests.{eq-eqb, ne_eqb}
 use lib.ListN.{length, drop}
 use Rattle.text.specs.Lines.{line_length}
-use Rattle.text.specs.laws.Lines.{line_length_step, line_length_end}
+use Rattle.text.proofs.laws.Lines.{line_length_step, line_length_end}
 use Rattle.text.proofs.lines.line_length.Statement.{statement}
 use Rattle.text.proofs.lines.line_length.Tie as tie
 
