@@ -3,12 +3,8 @@
 use Rattle.std.specs.Prelude.{Bool, true, ◌&&◌, List, [], ◌∷◌, map, ℕ, eqb}
 use Prim.Native.String.{String}
 use Rattle.code.specs.Ascii.{digits}
-use Rattle.code.specs.Layers.{syndrome}
-use Rattle.code.specs.Segment.{check, separator, marker, segment}
-use Rattle.code.specs.Layout.{sum}
 use Rattle.code.specs.Edits.{same}
-use Rattle.code.specs.Reading.{repaired, clean}
-use Rattle.code.specs.Strands.{above, tries, scan, reading, outcomes, verdicts_of}
+use Rattle.code.specs.Strands.{outcomes, verdicts_of}
 use Rattle.code.specs.Verdicts.{verdict_number}
 use Rattle.code.specs.Starts.{starts_tried}
 use Rattle.code.specs.declared.Edit.TheVariants.{None, Sub, Del, Ins}

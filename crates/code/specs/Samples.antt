@@ -2,7 +2,7 @@
 use Rattle.std.specs.Prelude.{Bool, false, ◌&&◌, ℕ, eqb, replicate}
 use mathlib.Core.List.{List, [], ◌∷◌}
 use Rattle.code.specs.Ascii.{ascii, digits}
-use Rattle.code.specs.Symbols.{bytes, symbols, legible}
+use Rattle.code.specs.Symbols.{bytes, legible}
 use Rattle.code.specs.Segment.{sep}
 use Rattle.code.specs.Layout.{written}
 use Rattle.code.specs.Order.{order}

@@ -56,7 +56,7 @@ legible (c ∷ cs) = before (symbol_of c) (legible cs)
 
 -- letters throughout have an N among them
 abbrev pub with_unknown : Decoded → Decoded
-with_unknown (D.Whole unknown) = D.Whole true
+with_unknown (D.Whole _) = D.Whole true
 with_unknown (D.Foreign i) = D.Foreign i
 
 -- the verdict of what follows a symbol's letter, or an N; at a foreign byte its place

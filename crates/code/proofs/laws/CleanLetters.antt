@@ -2,7 +2,7 @@
 --   clean_letters   letters are clean if their symbols are and no N is among them
 --   clean_symbols   what is clean in letters is clean in symbols
 --   end_letters     the end of step 8 in symbols is that in letters, where the next segment is clean in letters
-use Rattle.std.specs.Prelude.{◌≡◌, refl, Bool, true, false, cond, not, ◌&&◌, List, [], ◌∷◌, ℕ, ◌+◌, ◌-◌, length, take, drop}
+use Rattle.std.specs.Prelude.{◌≡◌, refl, Bool, true, false, cond, not, ◌&&◌, List, [], ◌∷◌, ℕ, ◌+◌, length, take, drop}
 use Rattle.std.proofs.Common.{sym, ap, subst, ◌∙◌, arith}
 use Rattle.std.proofs.Math.Option.{Option, some, none}
 use Rattle.code.specs.Symbols.{as_symbols, has_unknown}

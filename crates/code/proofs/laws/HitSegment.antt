@@ -1,6 +1,6 @@
 -- A segment under an edit in its separator or syndrome is read, and its end is found.
 --   tail_read   the edits of separator and syndrome, one by one
-use Rattle.std.specs.Prelude.{◌≡◌, refl, Bool, ◌⊎◌, ℕ, zero, suc, ◌+◌, ◌-◌, ◌≤◌, get_or, take, drop, set}
+use Rattle.std.specs.Prelude.{◌≡◌, refl, Bool, ◌⊎◌, ℕ, zero, suc, ◌+◌, ◌≤◌, get_or, take, drop, set}
 use Rattle.std.proofs.Common.{sym, ap, ◌∙◌, inl, arith, length-set, take_at}
 use Rattle.std.proofs.Math.Path.{subst}
 use mathlib.Core.List.{List, [], ◌∷◌, ◌++◌, append_assoc, cons≢nil}

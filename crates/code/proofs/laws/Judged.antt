@@ -5,7 +5,7 @@ use Rattle.std.proofs.Common.{sym, ap, ◌∙◌, append-nil, ⊎_elim, eq-or-lt
 use Rattle.std.specs.Prelude.{Bool, ◌||◌, List, [], ◌∷◌, length, set}
 use Rattle.std.proofs.Math.Bool.{true, false, cond, true≢false}
 use Rattle.std.proofs.Math.Option.{some, none}
-use Prim.Native.Nat.{ℕ, zero, suc, ◌+◌, ◌-◌, ◌≤◌, ◌<◌}
+use Prim.Native.Nat.{ℕ, zero, suc, ◌+◌, ◌≤◌, ◌<◌}
 use Rattle.std.proofs.Math.Nat.{le_of_suc-le-suc}
 use native.Mathlib.Omega.{arith}
 use Rattle.std.proofs.Math.Decide.{dec_le}

@@ -12,10 +12,10 @@ use Rattle.code.specs.Symbols.{as_symbols}
 use Rattle.code.proofs.laws.Letters.{as_drop}
 use Rattle.code.specs.Segment.{last_of, size}
 use Rattle.code.specs.Layout.{Lengths, more}
-use Rattle.code.specs.Reading.{clean, SegmentResult, read, read_segment}
+use Rattle.code.specs.Reading.{SegmentResult, read, read_segment}
 use Rattle.code.specs.Sheet.{marks_of, count_of}
 use Rattle.code.specs.Strands.{window, Try, try_at, tries, stands, first_standing, scan, told, Outcome, lost_outcome, unfound, lost_and_rest, segment_and_rest, Scan, reading, verdicts_of}
-use Rattle.code.proofs.laws.Scan.{first, standing_append, scan_passes, sought_Among}
+use Rattle.code.proofs.laws.Scan.{standing_append, scan_passes, sought_Among}
 use Rattle.code.proofs.laws.Strands.{length-reading}
 use Rattle.code.proofs.laws.Demand3.{demand_3}
 use Rattle.code.specs.LaterSegments.{place_behind, marked_behind, Before, StandsFirst, clean_and_rest, ComesBack, NeverScans, next_scan, StaysFound, Kept, all, same, tail, AllFound, StaysRead}

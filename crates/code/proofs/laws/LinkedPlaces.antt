@@ -1,5 +1,5 @@
 -- Linked words by place: a bit set, left out or put in, and what that does to the sum of places.
-use Rattle.std.specs.Prelude.{◌≡◌, refl, Bool, true, false, not, cond, [], ◌∷◌, ℕ, zero, suc, ◌+◌, ◌-◌, ◌≤◌, ◌<◌, length, get_or, drop, set}
+use Rattle.std.specs.Prelude.{◌≡◌, refl, Bool, true, false, not, cond, [], ◌∷◌, ℕ, zero, suc, ◌+◌, ◌≤◌, ◌<◌, length, get_or, drop, set}
 use Rattle.std.proofs.Common.{ap, true≢false, not-suc-le-zero, le_of_suc-le-suc, arith}
 use Rattle.std.proofs.lemmas.Bool.{false≢true}
 use Rattle.code.specs.Layers.{Word, ones, sum_of_places}

@@ -24,7 +24,7 @@ use Rattle.code.proofs.laws.Edits.{both}
 use Rattle.code.specs.Reading.{clean, SegmentResult, read, read_segment}
 use Rattle.code.proofs.laws.Reading.{prefix_split}
 use Rattle.code.proofs.laws.CleanLetters.{clean_letters}
-use Rattle.code.specs.Strands.{Try, stands, scan, told, Outcome, lost_outcome, unfound, lost_and_rest, segment_and_rest, reading}
+use Rattle.code.specs.Strands.{Try, scan, told, Outcome, lost_outcome, unfound, lost_and_rest, segment_and_rest, reading}
 use Rattle.code.proofs.laws.Strands.{clean_read}
 use Rattle.code.specs.LaterSegments.{place_behind, marked_behind, clean_and_rest}
 use Rattle.code.specs.declared.Edit.{Edit}

@@ -1,7 +1,7 @@
 -- One segment of a strand that keeps the conditions is read, whatever follows it: over symbols, as if no N were received.
 --   Stops   where the reading of a stretch stops
 --   stops   the stretch of a segment under one edit is read
-use Rattle.std.specs.Prelude.{◌≡◌, Bool, false, ℕ, suc, ◌+◌, ◌-◌, ◌≤◌, length}
+use Rattle.std.specs.Prelude.{◌≡◌, Bool, false, ℕ, suc, ◌+◌, ◌≤◌, length}
 use Rattle.std.proofs.Common.{sym, subst, ◌∙◌, add-one, le-leb, length-append}
 use Rattle.std.proofs.Math.Path.{ap}
 use Rattle.std.proofs.Math.Bool.{true}

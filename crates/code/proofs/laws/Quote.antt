@@ -4,7 +4,6 @@ use Rattle.std.proofs.Common.{sym, ap, ◌∙◌, arith}
 use Rattle.std.proofs.lemmas.List.{length-map}
 use Rattle.code.specs.declared.Checked.{Checked}
 use Rattle.code.specs.declared.Checked.TheVariants as C
-use Rattle.code.specs.declared.Quote.{Quote}
 use Rattle.code.specs.declared.Quoted.TheVariants.{Numbers, Refused}
 use Rattle.code.specs.Limits.{most_length}
 use Rattle.code.specs.Refusals.{unless_refused}

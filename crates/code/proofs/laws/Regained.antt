@@ -9,7 +9,7 @@ use Rattle.code.proofs.laws.Layout.{Each}
 use Rattle.code.proofs.laws.Layout as L
 use Rattle.code.specs.Edits.{judged}
 use Rattle.code.proofs.laws.Judged.{judged-none}
-use Rattle.code.specs.Reading.{message, read, read_message, with_message, read_segment}
+use Rattle.code.specs.Reading.{read, read_message, with_message, read_segment}
 use Rattle.code.specs.Conditions.{received, Allowed}
 use Rattle.code.specs.Sheet.{mark_of, marks_of, count_of}
 use Rattle.code.specs.Strands.{told, Outcome, Scan, reading, verdicts_of}

@@ -10,7 +10,7 @@ use Rattle.code.specs.Reading.{is_prefix, two_equal, three_equal, separator_at, 
 use Rattle.code.specs.Reading.{repaired, message_at, message_without, read_message, clean, end_of, read_segment}
 use Rattle.code.specs.Strands.{above, pairs, tries, first_standing, scan, reading}
 use Rattle.code.specs.Starts.{up_to_standing, tried_by}
-use Rattle.code.specs.Runs.{gives, right, runs, every}
+use Rattle.code.specs.Runs.{right, runs, every}
 
 -- every run gives its verdicts and tries its starts
 pub runs_right : T (every runs)

@@ -18,13 +18,12 @@ use Rattle.code.specs.Layout.{sum, joined, Lengths, more}
 use Rattle.code.specs.Reading.{is_prefix, three_equal, separator_at, check_agrees, message_without, read_message, clean, SegmentResult, read_segment}
 use Rattle.code.specs.Sheet.{mark_of, marks_of, count_of}
 use Rattle.code.specs.Strands.{window, Try, tries, stands, first_standing, scan, Outcome, lost_outcome, reading, outcomes, verdicts_of}
-use Rattle.code.proofs.laws.Scan.{first}
 use Rattle.code.proofs.laws.Demand3.{demand_3}
 use Rattle.code.specs.LaterSegments.{place_behind, marked_behind}
 use Rattle.code.proofs.laws.LostSegments.{has, has-false, at_loss_lem}
 use Rattle.code.proofs.laws.Windows.{full, full_more, full_number, window_most, first_window, length_scan, scan_of_8}
 use Rattle.code.proofs.laws.TriedStarts.{gone_through, counted, unfound_tries, counted_segment, counted_most}
-use Rattle.code.specs.Starts.{up_to_standing, tried_behind, tried_by, most_starts, on, SameStarts, AtMost, EmptyTries, not_above, InNumbers, NoneTried}
+use Rattle.code.specs.Starts.{up_to_standing, tried_behind, tried_by, most_starts, SameStarts, AtMost, EmptyTries, not_above, InNumbers, NoneTried}
 use Rattle.code.specs.declared.Verdict.{Verdict}
 use Rattle.code.specs.declared.Verdict.TheVariants.{Read, Unknown, Lost, NoStart}
 

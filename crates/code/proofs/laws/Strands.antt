@@ -11,7 +11,7 @@ use Rattle.code.proofs.laws.Segment.{length-segment}
 use Rattle.code.specs.Layout.{joined}
 use Rattle.code.specs.Edits.{judged}
 use Rattle.code.proofs.laws.Edits.{same_refl}
-use Rattle.code.specs.Reading.{message, SegmentResult, read, lost, read_message, end_of, read_segment}
+use Rattle.code.specs.Reading.{message, SegmentResult, read, read_message, end_of, read_segment}
 use Rattle.code.proofs.laws.ReadSegment.{read_parts}
 use Rattle.code.proofs.laws.SegmentSteps.{pre, Sees, Final, Sees-end, reads_settled}
 use Rattle.code.proofs.laws.EditedSegment.{ending, message_edit}

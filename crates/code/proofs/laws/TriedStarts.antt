@@ -18,10 +18,10 @@ use Rattle.std.proofs.lemmas.List.{length-map}
 use Rattle.code.specs.Symbols.{as_symbols, has_unknown}
 use Rattle.code.proofs.laws.Lists.{drop_front}
 use Rattle.code.proofs.laws.Letters.{as_drop}
-use Rattle.code.specs.Segment.{segment, last_of, size}
+use Rattle.code.specs.Segment.{last_of, size}
 use Rattle.code.specs.Layout.{sum, Lengths, more}
 use Rattle.code.specs.Reading.{SegmentResult, read, read_segment}
-use Rattle.code.specs.Strands.{window, Try, try_at, tries, stands, first_standing, scan, told, Outcome, unfound, lost_and_rest, segment_and_rest, reading, outcomes}
+use Rattle.code.specs.Strands.{window, Try, try_at, tries, stands, first_standing, scan, told, Outcome, unfound, lost_and_rest, segment_and_rest, reading}
 use Rattle.code.proofs.laws.Scan.{first, standing_append, window_passed, scan_passes}
 use Rattle.code.proofs.laws.Windows.{full, full_next, full_append, full_more, window_most, size_above, length_scan}
 use Rattle.code.specs.Starts.{up_to_standing, tried_behind, tried_by, GoneThrough, end, found, on}

@@ -9,9 +9,9 @@
 --   length-tries    the starts of the windows behind p others
 --   length_scan     the starts of all windows of a scan, if all are above P
 --   scan_of_8       one fewer, if the lost segment has 8 letters
-use Rattle.std.specs.Prelude.{◌≡◌, Bool, true, false, cond, List, [], ◌∷◌, ◌++◌, map, ltb, length}
+use Rattle.std.specs.Prelude.{◌≡◌, Bool, true, false, cond, List, [], ◌∷◌, map, ltb, length}
 use Rattle.std.proofs.Math.Path.{refl}
-use Rattle.std.proofs.Common.{sym, ap, ◌∙◌, add-one, length-append}
+use Rattle.std.proofs.Common.{add-one, length-append}
 use Prim.Native.Nat.{ℕ, zero, suc, ◌+◌, ◌-◌, ◌*◌, ◌≤◌, ◌<◌}
 use native.Mathlib.Omega.{arith}
 use borrow.Author.Tests.{lt-ltb}
@@ -19,7 +19,7 @@ use Rattle.std.proofs.lemmas.List.{length-map}
 use Rattle.code.specs.Segment.{size}
 use Rattle.code.proofs.laws.Segment.{width_two}
 use Rattle.code.specs.Layout.{Lengths, done, more}
-use Rattle.code.specs.Strands.{above, pairs, window, Try, try_at, tries}
+use Rattle.code.specs.Strands.{above, pairs, window, try_at, tries}
 
 -- the starts of the first j windows, if all are above P
 unfoldable pub full : ℕ → ℕ

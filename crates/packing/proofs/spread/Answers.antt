@@ -1,0 +1,6 @@
+use native.Mathlib.Omega.{arith}
+use Rattle.packing.proofs.Words.{spread_rounds}
+use Rattle.packing.proofs.spread.Goals as goal
+
+pub returns : goal.returns
+returns c = spread_rounds c.args.x (omega arith)
