@@ -14,7 +14,7 @@ use lib.Dec.{eqb}
 use lib.ListN.{length, get_or, take, drop, length-drop}
 use lib.Seq.{drop-cons, drop-drop, get_or-drop, get_or-take, length-take-le}
 use Rattle.code.specs.Bounds.{longest, widest}
-use Rattle.code.specs.Layers.{pair, bits, width}
+use Rattle.code.specs.Layers.{pair, bits}
 use Rattle.code.specs.Segment.{sep, marker, block, segment, data_at}
 use Rattle.code.specs.Reading.{is_prefix}
 use Rattle.code.proofs.laws.Reading.{and-true, and-false}

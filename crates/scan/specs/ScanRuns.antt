@@ -3,8 +3,6 @@ use Rattle.std.specs.Prelude.{Bool, true, false, ◌&&◌, List, [], ◌∷◌, 
 use Rattle.std.proofs.Math.Option.{Option, some, none}
 use Rattle.code.specs.Ascii.{digits}
 use Rattle.code.specs.Symbols.{as_symbols}
-use Rattle.code.specs.Segment.{check, marker, segment}
-use Rattle.code.specs.Reading.{clean}
 use Rattle.code.specs.Strands.{window}
 use Rattle.scan.specs.Scans.{first_clean, letter_before}
 
