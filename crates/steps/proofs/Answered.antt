@@ -5,13 +5,10 @@
 --   message_lost  a step loses it
 use mathlib.Core.Path.{◌≡◌, refl, sym, ap, subst, ◌∙◌}
 use mathlib.Core.Bool.{Bool}
-use mathlib.Core.List.{List, [], ◌∷◌}
-use mathlib.Core.Logic.{⊎_elim}
+use mathlib.Core.List.{List}
 use mathlib.Core.Option.{Option, some, none}
 use Prim.Native.Nat.{ℕ, ◌+◌, ◌-◌, ◌≤◌}
 use native.Mathlib.Omega.{arith}
-use types.Run.{OneOf}
-use denote.Enum.Declared.{tag_of}
 use lib.ListN.{length, drop}
 use Rattle.code.specs.Segment.{last_of}
 use Rattle.code.specs.Reading.{message, lost, read_message, end_of}
@@ -24,7 +21,6 @@ use Rattle.message.specs.MessageAnswers.{IsMessageResult}
 use Rattle.scan.specs.declared.Next.{Next}
 use Rattle.scan.specs.declared.Next.TheVariants.{At, Clean, Nowhere}
 use Rattle.scan.specs.Scans.{Ahead, ahead, start_from, next_place}
-use Rattle.scan.specs.contracts.Next.{the_type}
 use Rattle.steps.specs.Step8.{IsEnd}
 use Rattle.steps.proofs.Answers.{Ended}
 
@@ -49,14 +45,14 @@ module _ (marked : Bool) (m ks : List ℕ) (p : ℕ) (s letters : List ℕ) wher
   end_nowhere r is e = no_start p (last_of m) end (subst (IsEnd marked m ks p s letters) e is).0
 
   -- there is one
-  pub end_known : read_message marked (length m) (drop p s) ≡ message m → (r : Next) → IsEnd marked m ks p s letters r → OneOf (0 ∷ 1 ∷ []) (tag_of the_type r) → (n at : ℕ) → at ≡ next_place r n → Ended marked p s letters ks m r at
+  pub end_known : read_message marked (length m) (drop p s) ≡ message m → (r : Next) → IsEnd marked m ks p s letters r → (r ≡ Nowhere → ⊥) → (n at : ℕ) → at ≡ next_place r n → Ended marked p s letters ks m r at
   end_known g (At e f) is h n at q =
       let x = some_start p (last_of m) end (ahead 0 e f) is.0 in
       record { is_read_message = g; ends = rw q x.0; behind = omega (arith, x.1, q); inside = omega (arith, is.1.inside, q); next_is = rw q (ap some x.2); known = is.1 }
   end_known g (Clean e f i) is h n at q =
       let x = some_start p (last_of m) end (ahead i e f) is.0 in
       record { is_read_message = g; ends = rw q x.0; behind = omega (arith, x.1, q); inside = omega (arith, is.1.0.inside, q); next_is = rw q (ap some x.2); known = is.1 }
-  end_known g Nowhere is h n at q = absurd (⊎_elim (λ e. omega arith) (λ e. omega arith) h)
+  end_known g Nowhere is h n at q = absurd (h refl)
 
 -- the message in the buffer, and its tail
 pub message_in : (g : R.MessageResult) (out : List ℕ) (r : MessageResult) (t : Tail) → IsMessageResult g out r → r ≡ Message t → (g ≡ message out) × IsTail out t

@@ -9,12 +9,9 @@
 use mathlib.Core.Path.{◌≡◌, refl, sym, ap, subst, ◌∙◌}
 use mathlib.Core.Bool.{Bool, true, false, cond}
 use mathlib.Core.List.{List, [], ◌∷◌, map}
-use mathlib.Core.Logic.{⊎_elim}
 use mathlib.Core.Option.{Option, some, none}
 use Prim.Native.Nat.{ℕ, zero, suc, ◌+◌, ◌-◌, ◌*◌, ◌<◌, ◌≤◌}
 use native.Mathlib.Omega.{arith}
-use types.Run.{OneOf}
-use denote.Enum.Declared.{tag_of}
 use lib.Dec.{ltb}
 use lib.ListN.{length, get_or, drop, length-drop}
 use lib.Seq.{drop-drop}
@@ -33,7 +30,6 @@ use Rattle.scan.specs.declared.Next.TheVariants.{Clean, Nowhere}
 use Rattle.scan.specs.Scans.{first_clean, letter_before, try_from, clean_from, searched, start_of, Known}
 use Rattle.scan.proofs.laws.Scans.{clean_short, window_first}
 use Rattle.scan.proofs.Starts.{size_room, searched_start, searched-Known}
-use Rattle.scan.specs.contracts.Next.{the_type}
 use Rattle.steps.specs.Steps.{lost_at}
 
 -- Starts without room
@@ -162,7 +158,7 @@ module _ {letters : List ℕ} {p : ℕ} {marked : Bool} {k : ℕ} {rest : List �
               nowhere z = let y : ◌≡◌ {A = ℕ} 0 1 = cc in omega arith
 
       -- it does not: the one behind it is sought
-      pub Sought-on : OneOf (0 ∷ 2 ∷ []) (tag_of the_type r) → centre < most_letters + 8 * (passed + 1) → (n : ℕ) → n ≡ size true x → Sought letters p marked k rest (centre + n) (passed + 1) xs
+      pub Sought-on : ((at f n : ℕ) → r ≡ Clean at f n → ⊥) → centre < most_letters + 8 * (passed + 1) → (n : ℕ) → n ≡ size true x → Sought letters p marked k rest (centre + n) (passed + 1) xs
       Sought-on h close n e =
           let z = size_marked x sought_small in
           record {
@@ -175,6 +171,4 @@ module _ {letters : List ℕ} {p : ℕ} {marked : Bool} {k : ℕ} {rest : List �
         where
           go : (o : Option ℕ) → first ≡ o → first ≡ none
           go none q = q
-          go (some o) q =
-              let w = subst (λ (y : Next). OneOf (0 ∷ 2 ∷ []) (tag_of the_type y)) (is ∙ ap (clean_from passed p (letter_before true 0 S)) q) h in
-              absurd (⊎_elim (λ e. omega arith) (λ e. omega arith) w)
+          go (some o) q = absurd (h _ _ _ (is ∙ ap (clean_from passed p (letter_before true 0 S)) q))

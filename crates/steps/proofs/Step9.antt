@@ -3,15 +3,12 @@
 --   anew_front   it stands at the front of that array
 --   named        a verdict that names an edit
 --   lost_named   one that names none
-use mathlib.Core.Path.{◌≡◌, refl, sym, subst, ◌∙◌}
+use mathlib.Core.Path.{◌≡◌, refl, sym, ◌∙◌}
 use mathlib.Core.Bool.{Bool, true, false}
-use mathlib.Core.List.{List, [], ◌∷◌}
-use mathlib.Core.Logic.{⊎_elim}
+use mathlib.Core.List.{List}
 use mathlib.Core.Option.{Option, some, none}
 use Prim.Native.Nat.{ℕ, ◌≤◌}
 use native.Mathlib.Omega.{arith}
-use types.Run.{OneOf}
-use denote.Enum.Declared.{tag_of}
 use lib.ListN.{length, take, drop}
 use lib.Seq.{take-append-le, take-length}
 use Rattle.code.specs.Buffers.{put_at}
@@ -23,7 +20,6 @@ use Rattle.code.proofs.laws.Segment.{length-segment}
 use Rattle.code.specs.declared.Edit.{Edit}
 use Rattle.code.specs.declared.Verdict.{Verdict}
 use Rattle.code.specs.declared.Verdict.TheVariants.{Read, Lost}
-use Rattle.code.specs.contracts.Verdict.{the_type}
 use Rattle.edits.specs.Judgement.{judged_as}
 
 -- a segment fits the array that it is written into
@@ -45,12 +41,9 @@ pub record Named (x : Option Edit) (v : Verdict) : Type 0 where
   pub is : x ≡ some edit
   pub verdict : v ≡ Read edit
 
-pub named : (x : Option Edit) (v : Verdict) → v ≡ judged_as x → OneOf (0 ∷ 1 ∷ 3 ∷ []) (tag_of the_type v) → Named x v
+pub named : (x : Option Edit) (v : Verdict) → v ≡ judged_as x → ((n : ℕ) → v ≡ Lost n → ⊥) → Named x v
 named (some e) v q h = record { edit = e; is = refl; verdict = q }
-named none v q h = absurd (go (subst (λ (w : Verdict). OneOf (0 ∷ 1 ∷ 3 ∷ []) (tag_of the_type w)) q h))
-  where
-    go : OneOf (0 ∷ 1 ∷ 3 ∷ []) (tag_of the_type (Lost 9)) → ⊥
-    go h = ⊎_elim (λ e. omega arith) (⊎_elim (λ e. omega arith) (λ e. omega arith)) h
+named none v q h = absurd (h 9 q)
 
 -- a verdict that loses is that of more than one edit
 pub lost_named : (x : Option Edit) (v : Verdict) (step : ℕ) → v ≡ judged_as x → v ≡ Lost step → (x ≡ none) × (step ≡ 9)
