@@ -1,6 +1,6 @@
 -- Laws of hexadecimal digits, in the order of their definitions.
 use Rattle.std.specs.Prelude.{◌≡◌, refl, Bool, true, false, ◌&&◌, cond, List, [], ◌∷◌, ◌++◌, ℕ, zero, suc, ◌+◌, ◌*◌, ◌/◌, ◌%◌, ◌<◌, ◌≤◌, ltb, length, get_or, take, drop}
-use Rattle.std.proofs.Common.{ap, arith, add-one, drop_of_length-le, take-suc, drop-cons}
+use Rattle.std.proofs.Common.{ap, arith, add-one, take-suc}
 use borrow.Author.Tests.{ltb-true, lt-ltb, eq-eqb, le-leb}
 use Rattle.std.proofs.Math.Seq.{drop-nil}
 use Rattle.code.specs.Symbols.{Below}
