@@ -13,7 +13,7 @@ loop-i-init c = (omega arith, refl, Appended-nothing _ _)
 
 pub digit_of-requires : goal.digit_of-requires
 unfolding hex_digits
-digit_of-requires c = omega (arith, c.shared_slice_known-in-loop-i-1.given c.loop-i.i)
+digit_of-requires c = omega arith
 
 pub put-end-requires : goal.put-end-requires
 unfolding hex_digits
