@@ -1,3 +1,3 @@
-pub mod Input
+pub mod WrongUse
 pub mod RefusedLine
 pub mod LabelLine

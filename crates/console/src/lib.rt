@@ -2,71 +2,100 @@
 
 #![tactic(auto)]
 
-ghost use Rattle.std.specs.Prelude.{◌≡◌, ◌+◌, ◌≤◌, length};
+#[cfg(test)]
+mod tests;
+
+ghost use Rattle.std.specs.Prelude.{◌≡◌, ◌+◌, ◌≤◌, IfOk, IfSome, MatchResult, OnOk, length, take};
+ghost use Rattle.std.specs.Io.KnownBytes.{Appends, Consumes};
+ghost use Rattle.std.specs.Process.{exit_status};
 ghost use Rattle.text.specs.Put.{Appended};
-ghost use Rattle.console.specs.Input.{Within};
+ghost use Rattle.console.specs.WrongUse.{SaidIf};
 ghost use Rattle.console.specs.LabelLine.{most_label, Held, order_line};
 ghost use Rattle.console.specs.RefusedLine.{refused_line, refused_room};
 
 use code::{Labelled, Refusal};
-use libc::{STDERR_FILENO, STDIN_FILENO, STDOUT_FILENO};
+use std::env::{Env, FillError};
+use std::io;
+use std::io::Write;
+use std::process::ExitCode;
 use text::decimal::put_named;
 use text::hex::Hex;
 use text::lines::front;
 use text::put::put;
 
-// What reading standard input answers: the number of bytes that came, or that a read failed.
+// What a program can't go on after: a read of its input or a write of its output that failed.
 #[derive(Clone, Copy)]
-pub enum Input {
-    Bytes(usize),
-    Failed,
+pub enum Failure {
+    Reading(io::Error),
+    Writing(io::Error),
 }
 
-// Whether the program was started with arguments, which it doesn't take; then `expected` goes to standard error.
-pub fn is_wrong_use(expected: &[u8]) -> bool {
-    if os::arg_count() < 2 {
-        return false;
-    }
-    io::write_all(STDERR_FILENO, expected);
-    true
-}
-
-// One read of standard input to the front of `part`; it gives 0 bytes at the input's end. A read that fails is told on standard error,
-// as the `task` that failed and the system's reason.
-fn read_some(part: &mut [u8], task: &[u8]) -> Input
-    ensures { Within result (length part.old) }
+// Whether the program was started with arguments, which it doesn't take; then `expected` goes to `told`, which is standard error.
+pub fn is_wrong_use<E: Env, W: io::Write>(
+    env: &E,
+    told: &mut W,
+    expected: &[u8],
+) -> io::Result<bool>
+    ensures { IfOk result (λ wrong. SaidIf wrong (W.contents told.old) (W.contents told.new) expected.now) }
 {
-    let got = libc::read(STDIN_FILENO, part);
-    if got < 0 {
-        os::fail(task);
-        return Input::Failed;
+    let mut byte = [0u8; 1];
+    match env.arg(1, &mut byte) {
+        Err(FillError::NotPresent) => Ok(false),
+        _ => {
+            told.write_all(expected)?;
+            Ok(true)
+        }
     }
-    Input::Bytes(io::count(got, part))
 }
 
-// Standard input at the front of `input`, up to its end or until there is no more room, however many reads it takes.
-pub fn read_input(input: &mut [u8], task: &[u8]) -> Input
-    ensures { Within result (length input.old) }
+// A reader's bytes at the front of `input`, up to its end or until there is no more room, however many reads it takes; the answer is their
+// number.
+pub fn read_input<R: io::Read>(reader: &mut R, input: &mut [u8]) -> io::Result<usize>
+    ensures within { IfOk result (λ n. n ≤ length input.old) }
+    ensures bytes { IfOk result (λ n. Consumes (R.remaining reader.old) (R.remaining reader.new) (take n input.new)) }
+    ensures whole { IfOk result (λ n. IfSome (R.remaining reader.old) (λ all. take n input.new ≡ take (length input.old) all)) }
 {
     let mut done = 0;
     while done < input.len() {
-        let got = read_some(&mut input[done..], task);
-        let Input::Bytes(n) = got else {
-            return Input::Failed;
-        };
+        let n = reader.read(&mut input[done..])?;
         if n == 0 {
-            return Input::Bytes(done);
+            return Ok(done);
         }
         done += n;
     }
-    Input::Bytes(done)
+    Ok(done)
 }
 
-// All of `output` to standard output. A write that fails is told on standard error in the same way.
-pub fn write_output(output: &[u8], task: &[u8]) {
-    if !io::write_all(STDOUT_FILENO, output) {
-        os::fail(task);
-    }
+// All of `output` to a writer.
+pub fn write_output<W: io::Write>(writer: &mut W, output: &[u8]) -> io::Result<()>
+    ensures { OnOk result (Appends (W.contents writer.old) (W.contents writer.new) output.now) }
+{
+    writer.write_all(output)
+}
+
+// A failure in a line: the program's name, what failed, and the system's reason, without the error's number that std puts behind it.
+fn tell<W: io::Write>(told: &mut W, program: &str, task: &str, error: io::Error) -> io::Result<()> {
+    let mut text = io::Cursor::new([0u8; 256]);
+    write!(text, "{error}")?;
+    let words = front(text.get_ref(), text.position() as usize);
+    let number = b" (os error ".as_slice();
+    let end = words.windows(number.len()).position(|w| w == number);
+    write!(told, "{program}: {task}: ")?;
+    told.write_all(front(words, end.unwrap_or(words.len())))?;
+    told.write_all(b"\n")
+}
+
+// How a program ends: with 0, or, after a failure, which is told on standard error, with 1.
+pub fn ended<W: io::Write>(told: &mut W, program: &str, ran: Result<(), Failure>) -> ExitCode
+    ensures { MatchResult ran (λ _. exit_status result ≡ 0) (λ _. exit_status result ≡ 1) }
+{
+    let said = match ran {
+        Ok(()) => return ExitCode::from(0),
+        Err(Failure::Reading(error)) => tell(told, program, "reading the input", error),
+        Err(Failure::Writing(error)) => tell(told, program, "writing the output", error),
+    };
+    let _ = said;
+    ExitCode::from(1)
 }
 
 // The line for a refusal, behind the first `at` bytes of `out`; the answer is where it ends.

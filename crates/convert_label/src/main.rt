@@ -2,13 +2,16 @@
 
 #![tactic(auto)]
 
-ghost use Rattle.std.specs.Prelude.{◌≡◌, ◌≤◌, length, take, replicate};
+ghost use Rattle.std.specs.Prelude.{◌≡◌, ◌≤◌, IfSome, OnOk, length, take, replicate};
+ghost use Rattle.std.specs.Io.KnownBytes.{Appends};
 ghost use Rattle.code.specs.Conversion.{convert_call};
 ghost use Rattle.text.specs.Put.{Appended};
 ghost use Rattle.convert_label.specs.ConvertOutput.{most_converted, shown, convert_output, output_room};
 
 use code::{Refusal, Wrote};
-use console::{Input, MOST_LABEL, put_refused};
+use console::{Failure, MOST_LABEL, put_refused};
+use std::io;
+use std::process::ExitCode;
 use text::hex::{Hex, put_hex};
 use text::lines::{front, line};
 use text::put::put;
@@ -40,19 +43,24 @@ fn output(input: &[u8], out: &mut [u8]) -> usize
     put_converted(out, front(&bytes, n))
 }
 
-// The buffer holds every line that is taken; one that it does not hold whole is refused as too long.
-fn main() {
-    if console::is_wrong_use(
-        b"convert_label takes no arguments. It reads a line: a label in hexadecimal digits.\n",
-    ) {
-        return;
-    }
+// What is printed for all that a reader gives, to a writer. The buffer holds every line that is taken; one that it does not hold whole is
+// refused as too long.
+fn run<R: io::Read, W: io::Write>(reader: &mut R, writer: &mut W) -> Result<(), Failure>
+    ensures { OnOk result (IfSome (R.remaining reader.old) (λ input.
+        Appends (W.contents writer.old) (W.contents writer.new) (convert_output (take 512 input)))) }
+{
     let mut input = [0u8; 512];
-    let got = console::read_input(&mut input, b"convert_label: reading the input");
-    let Input::Bytes(n) = got else {
-        return;
-    };
+    let n = console::read_input(reader, &mut input).map_err(Failure::Reading)?;
     let mut out = [0u8; 151];
     let end = output(front(&input, n), &mut out);
-    console::write_output(front(&out, end), b"convert_label: writing the output");
+    console::write_output(writer, front(&out, end)).map_err(Failure::Writing)
+}
+
+fn main(rt: HostRuntime) -> ExitCode {
+    let expected = b"convert_label takes no arguments. It reads a line: a label in hexadecimal digits.\n";
+    let Ok(false) = console::is_wrong_use(&rt, &mut rt.stderr(), expected) else {
+        return ExitCode::SUCCESS;
+    };
+    let ran = run(&mut rt.stdin(), &mut rt.stdout());
+    console::ended(&mut rt.stderr(), "convert_label", ran)
 }

@@ -2,14 +2,17 @@
 
 #![tactic(auto)]
 
-ghost use Rattle.std.specs.Prelude.{◌≡◌, ◌≤◌, length, take};
+ghost use Rattle.std.specs.Prelude.{◌≡◌, ◌≤◌, IfSome, OnOk, length, take};
+ghost use Rattle.std.specs.Io.KnownBytes.{Appends};
 ghost use Rattle.code.specs.Order.{order};
 ghost use Rattle.code.specs.Quote.{quote_call};
 ghost use Rattle.text.specs.Put.{Appended};
 ghost use Rattle.quote_strands.specs.QuoteOutput.{shown, quote_text, quote_output, output_room};
 
 use code::{Checked, Quoted, Refusal};
-use console::{Input, put_refused};
+use console::{Failure, put_refused};
+use std::io;
+use std::process::ExitCode;
 use text::decimal::{Number, put_three};
 use text::lines::{behind, front, line};
 
@@ -59,19 +62,24 @@ fn output(input: &[u8], out: &mut [u8]) -> usize
     put_strands(out, &lengths[..count], label.b, line(behind(input)))
 }
 
-// The buffer holds every pair of lines that is taken; a line that it does not hold whole is refused as too long.
-fn main() {
-    if console::is_wrong_use(
-        b"quote_strands takes no arguments. It reads two lines: a label in hexadecimal digits, and a number of strands in decimal digits.\n",
-    ) {
-        return;
-    }
+// What is printed for all that a reader gives, to a writer. The buffer holds every pair of lines that is taken; a line that it does not hold
+// whole is refused as too long.
+fn run<R: io::Read, W: io::Write>(reader: &mut R, writer: &mut W) -> Result<(), Failure>
+    ensures { OnOk result (IfSome (R.remaining reader.old) (λ input.
+        Appends (W.contents writer.old) (W.contents writer.new) (quote_output (take 512 input)))) }
+{
     let mut input = [0u8; 512];
-    let got = console::read_input(&mut input, b"quote_strands: reading the input");
-    let Input::Bytes(n) = got else {
-        return;
-    };
+    let n = console::read_input(reader, &mut input).map_err(Failure::Reading)?;
     let mut out = [0u8; 60];
     let end = output(front(&input, n), &mut out);
-    console::write_output(front(&out, end), b"quote_strands: writing the output");
+    console::write_output(writer, front(&out, end)).map_err(Failure::Writing)
+}
+
+fn main(rt: HostRuntime) -> ExitCode {
+    let expected = b"quote_strands takes no arguments. It reads two lines: a label in hexadecimal digits, and a number of strands in decimal digits.\n";
+    let Ok(false) = console::is_wrong_use(&rt, &mut rt.stderr(), expected) else {
+        return ExitCode::SUCCESS;
+    };
+    let ran = run(&mut rt.stdin(), &mut rt.stdout());
+    console::ended(&mut rt.stderr(), "quote_strands", ran)
 }

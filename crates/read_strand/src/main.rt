@@ -2,13 +2,16 @@
 
 #![tactic(auto)]
 
-ghost use Rattle.std.specs.Prelude.{◌≡◌, ◌≤◌, length, take};
+ghost use Rattle.std.specs.Prelude.{◌≡◌, ◌≤◌, IfSome, OnOk, length, take};
+ghost use Rattle.std.specs.Io.KnownBytes.{Appends};
 ghost use Rattle.code.specs.Order.{order};
 ghost use Rattle.text.specs.Put.{Appended};
 ghost use Rattle.read_strand.specs.ReadOutput.{read_text, read_output, output_room};
 
 use code::{Checked, Counted};
-use console::{Input, put_refused};
+use console::{Failure, put_refused};
+use std::io;
+use std::process::ExitCode;
 use text::decimal::put_three;
 use text::hex::put_hex;
 use text::lines::{behind, front, line};
@@ -55,19 +58,24 @@ fn output(input: &[u8], out: &mut [u8]) -> usize
     put_reading(out, &lengths[..count], label.b, line(behind(input)))
 }
 
-// The buffer holds every pair of lines that is taken; a line that it does not hold whole is refused as too long.
-fn main() {
-    if console::is_wrong_use(
-        b"read_strand takes no arguments. It reads two lines: a label in hexadecimal digits, and a strand in the letters A, T, C, G and N.\n",
-    ) {
-        return;
-    }
+// What is printed for all that a reader gives, to a writer. The buffer holds every pair of lines that is taken; a line that it does not hold
+// whole is refused as too long.
+fn run<R: io::Read, W: io::Write>(reader: &mut R, writer: &mut W) -> Result<(), Failure>
+    ensures { OnOk result (IfSome (R.remaining reader.old) (λ input.
+        Appends (W.contents writer.old) (W.contents writer.new) (read_output (take 8192 input)))) }
+{
     let mut input = [0u8; 8192];
-    let got = console::read_input(&mut input, b"read_strand: reading the input");
-    let Input::Bytes(n) = got else {
-        return;
-    };
+    let n = console::read_input(reader, &mut input).map_err(Failure::Reading)?;
     let mut out = [0u8; 1079];
     let end = output(front(&input, n), &mut out);
-    console::write_output(front(&out, end), b"read_strand: writing the output");
+    console::write_output(writer, front(&out, end)).map_err(Failure::Writing)
+}
+
+fn main(rt: HostRuntime) -> ExitCode {
+    let expected = b"read_strand takes no arguments. It reads two lines: a label in hexadecimal digits, and a strand in the letters A, T, C, G and N.\n";
+    let Ok(false) = console::is_wrong_use(&rt, &mut rt.stderr(), expected) else {
+        return ExitCode::SUCCESS;
+    };
+    let ran = run(&mut rt.stdin(), &mut rt.stdout());
+    console::ended(&mut rt.stderr(), "read_strand", ran)
 }
