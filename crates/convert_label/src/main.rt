@@ -57,7 +57,8 @@ fn run<R: io::Read, W: io::Write>(reader: &mut R, writer: &mut W) -> Result<(), 
 }
 
 fn main(rt: HostRuntime) -> ExitCode {
-    let expected = b"convert_label takes no arguments. It reads a line: a label in hexadecimal digits.\n";
+    let expected =
+        b"convert_label takes no arguments. It reads a line: a label in hexadecimal digits.\n";
     let Ok(false) = console::is_wrong_use(&rt, &mut rt.stderr(), expected) else {
         return ExitCode::SUCCESS;
     };

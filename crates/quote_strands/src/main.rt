@@ -76,7 +76,8 @@ fn run<R: io::Read, W: io::Write>(reader: &mut R, writer: &mut W) -> Result<(), 
 }
 
 fn main(rt: HostRuntime) -> ExitCode {
-    let expected = b"quote_strands takes no arguments. It reads two lines: a label in hexadecimal digits, and a number of strands in decimal digits.\n";
+    let expected =
+        b"quote_strands takes no arguments. It reads two lines: a label in hexadecimal digits, and a number of strands in decimal digits.\n";
     let Ok(false) = console::is_wrong_use(&rt, &mut rt.stderr(), expected) else {
         return ExitCode::SUCCESS;
     };

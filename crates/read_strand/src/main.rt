@@ -72,7 +72,8 @@ fn run<R: io::Read, W: io::Write>(reader: &mut R, writer: &mut W) -> Result<(), 
 }
 
 fn main(rt: HostRuntime) -> ExitCode {
-    let expected = b"read_strand takes no arguments. It reads two lines: a label in hexadecimal digits, and a strand in the letters A, T, C, G and N.\n";
+    let expected =
+        b"read_strand takes no arguments. It reads two lines: a label in hexadecimal digits, and a strand in the letters A, T, C, G and N.\n";
     let Ok(false) = console::is_wrong_use(&rt, &mut rt.stderr(), expected) else {
         return ExitCode::SUCCESS;
     };
