@@ -1,3 +1,3 @@
 pub mod laws
 pub mod Lines
-pub mod Reading
+pub mod InParts

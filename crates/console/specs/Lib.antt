@@ -1,3 +1,3 @@
-pub mod WrongUse
+pub mod Streams
 pub mod RefusedLine
 pub mod LabelLine

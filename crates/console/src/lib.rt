@@ -5,11 +5,11 @@
 #[cfg(test)]
 mod tests;
 
-ghost use Rattle.std.specs.Prelude.{◌≡◌, ◌+◌, ◌≤◌, IfOk, IfSome, MatchResult, OnOk, length, take};
+ghost use Rattle.std.specs.Prelude.{◌≡◌, ◌+◌, ◌≤◌, IfOk, IfSome, MatchResult, OnErr, OnOk, length, take};
 ghost use Rattle.std.specs.Io.KnownBytes.{Appends, Consumes};
 ghost use Rattle.std.specs.Process.{exit_status};
 ghost use Rattle.text.specs.Put.{Appended};
-ghost use Rattle.console.specs.WrongUse.{SaidIf};
+ghost use Rattle.console.specs.Streams.{SaidIf, Came, Went};
 ghost use Rattle.console.specs.LabelLine.{most_label, Held, order_line};
 ghost use Rattle.console.specs.RefusedLine.{refused_line, refused_room};
 
@@ -36,24 +36,26 @@ pub fn is_wrong_use<E: Env, W: io::Write>(
     told: &mut W,
     expected: &[u8],
 ) -> io::Result<bool>
-    ensures { IfOk result (λ wrong. SaidIf wrong (W.contents told.old) (W.contents told.new) expected.now) }
+    ensures said { IfOk result (λ wrong. SaidIf wrong (W.contents told.old) (W.contents told.new) expected.now) }
+    ensures part { OnErr result (Went (W.contents told.old) (W.contents told.new) expected.now) }
 {
     let mut byte = [0u8; 1];
     match env.arg(1, &mut byte) {
         Err(FillError::NotPresent) => Ok(false),
         _ => {
-            told.write_all(expected)?;
+            write_output(told, expected)?;
             Ok(true)
         }
     }
 }
 
 // A reader's bytes at the front of `input`, up to its end or until there is no more room, however many reads it takes; the answer is their
-// number.
+// number. What came before a read that failed stands there too.
 pub fn read_input<R: io::Read>(reader: &mut R, input: &mut [u8]) -> io::Result<usize>
     ensures within { IfOk result (λ n. n ≤ length input.old) }
     ensures bytes { IfOk result (λ n. Consumes (R.remaining reader.old) (R.remaining reader.new) (take n input.new)) }
     ensures whole { IfOk result (λ n. IfSome (R.remaining reader.old) (λ all. take n input.new ≡ take (length input.old) all)) }
+    ensures part { OnErr result (Came (R.remaining reader.old) (R.remaining reader.new) input.new) }
 {
     let mut done = 0;
     while done < input.len() {
@@ -66,17 +68,26 @@ pub fn read_input<R: io::Read>(reader: &mut R, input: &mut [u8]) -> io::Result<u
     Ok(done)
 }
 
-// All of `output` to a writer.
+// All of `output` to a writer, however many writes it takes; its first bytes where a write fails. One that takes nothing has failed.
 pub fn write_output<W: io::Write>(writer: &mut W, output: &[u8]) -> io::Result<()>
-    ensures { OnOk result (Appends (W.contents writer.old) (W.contents writer.new) output.now) }
+    ensures whole { OnOk result (Appends (W.contents writer.old) (W.contents writer.new) output.now) }
+    ensures part { OnErr result (Went (W.contents writer.old) (W.contents writer.new) output.now) }
 {
-    writer.write_all(output)
+    let mut done = 0;
+    while done < output.len() {
+        let sent = writer.write(&output[done..])?;
+        if sent == 0 {
+            return Err(io::Error::from(io::ErrorKind::WriteZero));
+        }
+        done += sent;
+    }
+    Ok(())
 }
 
 // A failure in a line: the program's name, what failed, and the system's reason, without the error's number that std puts behind it.
 fn tell<W: io::Write>(told: &mut W, program: &str, task: &str, error: io::Error) -> io::Result<()> {
     let mut text = io::Cursor::new([0u8; 256]);
-    write!(text, "{error}")?;
+    let _ = write!(text, "{error}");
     let words = front(text.get_ref(), text.position() as usize);
     let number = b" (os error ".as_slice();
     let end = words.windows(number.len()).position(|w| w == number);

@@ -2,8 +2,9 @@
 
 #![tactic(auto)]
 
-ghost use Rattle.std.specs.Prelude.{◌≡◌, ◌≤◌, IfSome, OnOk, length, take, replicate};
+ghost use Rattle.std.specs.Prelude.{◌≡◌, ◌≤◌, IfErr, IfSome, OnOk, length, take, replicate};
 ghost use Rattle.std.specs.Io.KnownBytes.{Appends};
+ghost use Rattle.console.specs.Streams.{Left};
 ghost use Rattle.code.specs.Conversion.{convert_call};
 ghost use Rattle.text.specs.Put.{Appended};
 ghost use Rattle.convert_label.specs.ConvertOutput.{most_converted, shown, convert_output, output_room};
@@ -46,8 +47,10 @@ fn output(input: &[u8], out: &mut [u8]) -> usize
 // What is printed for all that a reader gives, to a writer. The buffer holds every line that is taken; one that it does not hold whole is
 // refused as too long.
 fn run<R: io::Read, W: io::Write>(reader: &mut R, writer: &mut W) -> Result<(), Failure>
-    ensures { OnOk result (IfSome (R.remaining reader.old) (λ input.
+    ensures written { OnOk result (IfSome (R.remaining reader.old) (λ input.
         Appends (W.contents writer.old) (W.contents writer.new) (convert_output (take 512 input)))) }
+    ensures left { IfErr result (λ failure.
+        Left failure (R.remaining reader.old) (W.contents writer.old) (W.contents writer.new) (λ input. convert_output (take 512 input))) }
 {
     let mut input = [0u8; 512];
     let n = console::read_input(reader, &mut input).map_err(Failure::Reading)?;
