@@ -9,12 +9,12 @@ ghost use Rattle.std.specs.Prelude.{◌≡◌, ◌+◌, ◌≤◌, IfOk, IfSome,
 ghost use Rattle.std.specs.Io.KnownBytes.{Appends, Consumes};
 ghost use Rattle.std.specs.Process.{exit_status};
 ghost use Rattle.text.specs.Put.{Appended};
-ghost use Rattle.console.specs.Streams.{SaidIf, Came, Went};
+ghost use Rattle.console.specs.Streams.{is_given, SaidIf, Came, Went};
 ghost use Rattle.console.specs.LabelLine.{most_label, Held, order_line};
 ghost use Rattle.console.specs.RefusedLine.{refused_line, refused_room};
 
 use code::{Labelled, Refusal};
-use std::env::{Env, FillError};
+use std::env::FillError;
 use std::io;
 use std::io::Write;
 use std::process::ExitCode;
@@ -30,17 +30,18 @@ pub enum Failure {
     Writing(io::Error),
 }
 
-// Whether the program was started with arguments, which it doesn't take; then `expected` goes to `told`, which is standard error.
-pub fn is_wrong_use<E: Env, W: io::Write>(
-    env: &E,
+// Whether the program was started with arguments, which it doesn't take, by what is answered when the first is asked for; then `expected` goes
+// to `told`, which is standard error.
+pub fn is_wrong_use<W: io::Write>(
+    first: Result<usize, FillError>,
     told: &mut W,
     expected: &[u8],
 ) -> io::Result<bool>
+    ensures wrong { IfOk result (λ wrong. wrong ≡ is_given first) }
     ensures said { IfOk result (λ wrong. SaidIf wrong (W.contents told.old) (W.contents told.new) expected.now) }
     ensures part { OnErr result (Went (W.contents told.old) (W.contents told.new) expected.now) }
 {
-    let mut byte = [0u8; 1];
-    match env.arg(1, &mut byte) {
+    match first {
         Err(FillError::NotPresent) => Ok(false),
         _ => {
             write_output(told, expected)?;

@@ -11,6 +11,7 @@ ghost use Rattle.convert_label.specs.ConvertOutput.{most_converted, shown, conve
 
 use code::{Refusal, Wrote};
 use console::{Failure, MOST_LABEL, put_refused};
+use std::env::Env;
 use std::io;
 use std::process::ExitCode;
 use text::hex::{Hex, put_hex};
@@ -62,7 +63,8 @@ fn run<R: io::Read, W: io::Write>(reader: &mut R, writer: &mut W) -> Result<(), 
 fn main(rt: HostRuntime) -> ExitCode {
     let expected =
         b"convert_label takes no arguments. It reads a line: a label in hexadecimal digits.\n";
-    let Ok(false) = console::is_wrong_use(&rt, &mut rt.stderr(), expected) else {
+    let first = rt.arg(1, &mut [0u8; 1]);
+    let Ok(false) = console::is_wrong_use(first, &mut rt.stderr(), expected) else {
         return ExitCode::SUCCESS;
     };
     let ran = run(&mut rt.stdin(), &mut rt.stdout());

@@ -12,6 +12,7 @@ ghost use Rattle.quote_strands.specs.QuoteOutput.{shown, quote_text, quote_outpu
 
 use code::{Checked, Quoted, Refusal};
 use console::{Failure, put_refused};
+use std::env::Env;
 use std::io;
 use std::process::ExitCode;
 use text::decimal::{Number, put_three};
@@ -81,7 +82,8 @@ fn run<R: io::Read, W: io::Write>(reader: &mut R, writer: &mut W) -> Result<(), 
 fn main(rt: HostRuntime) -> ExitCode {
     let expected =
         b"quote_strands takes no arguments. It reads two lines: a label in hexadecimal digits, and a number of strands in decimal digits.\n";
-    let Ok(false) = console::is_wrong_use(&rt, &mut rt.stderr(), expected) else {
+    let first = rt.arg(1, &mut [0u8; 1]);
+    let Ok(false) = console::is_wrong_use(first, &mut rt.stderr(), expected) else {
         return ExitCode::SUCCESS;
     };
     let ran = run(&mut rt.stdin(), &mut rt.stdout());

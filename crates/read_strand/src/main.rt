@@ -11,6 +11,7 @@ ghost use Rattle.read_strand.specs.ReadOutput.{read_text, read_output, output_ro
 
 use code::{Checked, Counted};
 use console::{Failure, put_refused};
+use std::env::Env;
 use std::io;
 use std::process::ExitCode;
 use text::decimal::put_three;
@@ -77,7 +78,8 @@ fn run<R: io::Read, W: io::Write>(reader: &mut R, writer: &mut W) -> Result<(), 
 fn main(rt: HostRuntime) -> ExitCode {
     let expected =
         b"read_strand takes no arguments. It reads two lines: a label in hexadecimal digits, and a strand in the letters A, T, C, G and N.\n";
-    let Ok(false) = console::is_wrong_use(&rt, &mut rt.stderr(), expected) else {
+    let first = rt.arg(1, &mut [0u8; 1]);
+    let Ok(false) = console::is_wrong_use(first, &mut rt.stderr(), expected) else {
         return ExitCode::SUCCESS;
     };
     let ran = run(&mut rt.stdin(), &mut rt.stdout());

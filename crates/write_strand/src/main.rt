@@ -13,6 +13,7 @@ ghost use Rattle.write_strand.specs.WriteOutput.{written, write_text, write_outp
 
 use code::{Checked, Refusal, Wrote};
 use console::{Failure, put_refused};
+use std::env::Env;
 use std::io;
 use std::process::ExitCode;
 use text::hex::Hex;
@@ -80,7 +81,8 @@ fn run<R: io::Read, W: io::Write>(reader: &mut R, writer: &mut W) -> Result<(), 
 fn main(rt: HostRuntime) -> ExitCode {
     let expected =
         b"write_strand takes no arguments. It reads two lines: a label in hexadecimal digits, and a message in hexadecimal digits.\n";
-    let Ok(false) = console::is_wrong_use(&rt, &mut rt.stderr(), expected) else {
+    let first = rt.arg(1, &mut [0u8; 1]);
+    let Ok(false) = console::is_wrong_use(first, &mut rt.stderr(), expected) else {
         return ExitCode::SUCCESS;
     };
     let ran = run(&mut rt.stdin(), &mut rt.stdout());
