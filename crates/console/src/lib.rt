@@ -6,7 +6,7 @@
 mod tests;
 
 ghost use Rattle.std.specs.Prelude.{◌≡◌, ◌+◌, ◌≤◌, IfOk, IfSome, MatchResult, OnErr, OnOk, length, take};
-ghost use Rattle.std.specs.Io.KnownBytes.{Appends, Consumes};
+ghost use Rattle.std.specs.Io.KnownBytes.{Appends, Consumes, Keeps};
 ghost use Rattle.std.specs.Process.{exit_status};
 ghost use Rattle.text.specs.Put.{Appended};
 ghost use Rattle.console.specs.Streams.{is_given, SaidIf, Came, Went};
@@ -97,9 +97,10 @@ fn tell<W: io::Write>(told: &mut W, program: &str, task: &str, error: io::Error)
     told.write_all(b"\n")
 }
 
-// How a program ends: with 0, or, after a failure, which is told on standard error, with 1.
+// How a program ends: with 0 and no word, or, after a failure, which is told on standard error, with 1.
 pub fn ended<W: io::Write>(told: &mut W, program: &str, ran: Result<(), Failure>) -> ExitCode
-    ensures { MatchResult ran (λ _. exit_status result ≡ 0) (λ _. exit_status result ≡ 1) }
+    ensures status { MatchResult ran (λ _. exit_status result ≡ 0) (λ _. exit_status result ≡ 1) }
+    ensures quiet { OnOk ran (Keeps (W.contents told.old) (W.contents told.new)) }
 {
     let said = match ran {
         Ok(()) => return ExitCode::from(0),
