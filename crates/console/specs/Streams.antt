@@ -31,7 +31,7 @@ Came old new bytes = (n : ℕ) × Consumes old new (take n bytes)
 abbrev pub Went : Option (List ℕ) → Option (List ℕ) → List ℕ → Type 0
 Went old new bytes = (n : ℕ) × Appends old new (take n bytes)
 
--- a failed read leaves the output as it was, a failed write leaves the first bytes of what the input is answered by
+-- a failed read leaves the output as it was; a failed write leaves the first bytes of what the input is answered by, where the input is known
 abbrev pub Left : Failure → Option (List ℕ) → Option (List ℕ) → Option (List ℕ) → (List ℕ → List ℕ) → Type 0
 Left (Reading error) input old new answer = Keeps old new
 Left (Writing error) input old new answer = IfSome input (λ bytes. Went old new (answer bytes))

@@ -5,7 +5,7 @@
 #[cfg(test)]
 mod tests;
 
-ghost use Rattle.std.specs.Prelude.{◌≡◌, ◌+◌, ◌≤◌, IfOk, IfSome, MatchResult, OnErr, OnOk, length, take};
+ghost use Rattle.std.specs.Prelude.{◌≡◌, ◌+◌, ◌<◌, ◌≤◌, true, IfOk, IfSome, MatchResult, OnErr, OnOk, length, take};
 ghost use Rattle.std.specs.Io.KnownBytes.{Appends, Consumes, Keeps};
 ghost use Rattle.std.specs.Process.{exit_status};
 ghost use Rattle.text.specs.Put.{Appended};
@@ -31,7 +31,7 @@ pub enum Failure {
 }
 
 // Whether the program was started with arguments, which it doesn't take, by what is answered when the first is asked for; then `expected` goes
-// to `told`, which is standard error.
+// to `told`, which is standard error. A right use has no error.
 pub fn is_wrong_use<W: io::Write>(
     first: Result<usize, FillError>,
     told: &mut W,
@@ -39,6 +39,7 @@ pub fn is_wrong_use<W: io::Write>(
 ) -> io::Result<bool>
     ensures wrong { IfOk result (λ wrong. wrong ≡ is_given first) }
     ensures said { IfOk result (λ wrong. SaidIf wrong (W.contents told.old) (W.contents told.new) expected.now) }
+    ensures given { OnErr result (is_given first ≡ true) }
     ensures part { OnErr result (Went (W.contents told.old) (W.contents told.new) expected.now) }
 {
     match first {
@@ -56,6 +57,7 @@ pub fn read_input<R: io::Read>(reader: &mut R, input: &mut [u8]) -> io::Result<u
     ensures within { IfOk result (λ n. n ≤ length input.old) }
     ensures bytes { IfOk result (λ n. Consumes (R.remaining reader.old) (R.remaining reader.new) (take n input.new)) }
     ensures whole { IfOk result (λ n. IfSome (R.remaining reader.old) (λ all. take n input.new ≡ take (length input.old) all)) }
+    ensures room { OnErr result (0 < length input.old) }
     ensures part { OnErr result (Came (R.remaining reader.old) (R.remaining reader.new) input.new) }
 {
     let mut done = 0;
@@ -72,6 +74,7 @@ pub fn read_input<R: io::Read>(reader: &mut R, input: &mut [u8]) -> io::Result<u
 // All of `output` to a writer, however many writes it takes; its first bytes where a write fails. One that takes nothing has failed.
 pub fn write_output<W: io::Write>(writer: &mut W, output: &[u8]) -> io::Result<()>
     ensures whole { OnOk result (Appends (W.contents writer.old) (W.contents writer.new) output.now) }
+    ensures some { OnErr result (0 < length output.now) }
     ensures part { OnErr result (Went (W.contents writer.old) (W.contents writer.new) output.now) }
 {
     let mut done = 0;
