@@ -4,7 +4,7 @@
 --   two_marks                     its two letters
 --   mark_fails, segment_seen      marker, and what follows the message
 use mathlib.Core.Path.{◌≡◌, refl, sym, ap, ◌∙◌}
-use mathlib.Core.Bool.{Bool, true, false, true≢false, ◌&&◌}
+use mathlib.Core.Bool.{Bool, true, false, ◌&&◌}
 use mathlib.Core.List.{List, [], ◌∷◌, ◌++◌}
 use Prim.Native.Nat.{ℕ, zero, suc, ◌+◌, ◌-◌, ◌*◌, ◌/◌, ◌≤◌, ◌<◌}
 use borrow.Author.Tests.{eq-eqb, ne_eqb}
@@ -64,9 +64,6 @@ module _ (s : List ℕ) (at t high low : ℕ) where
     pub inside : i ≤ t
     pub rest : answer ≡ is_prefix (pair (bits i h) (bits i l)) (drop at s)
 
-  pub Left-begin : Left t high low
-  Left-begin = record { inside = omega arith; rest = refl }
-
   module _ (i h l : ℕ) (known : Left i h l) where
     module _ (some : 0 < i) (room : at + t ≤ length s) where
       next : answer ≡ (is_prefix (pair (bits (i - 1) (h / 2)) (bits (i - 1) (l / 2))) (drop at s) && eqb (2 * bit_and h 1 + bit_and l 1) (get_or s (at + (i - 1)) 0))
@@ -83,11 +80,6 @@ module _ (s : List ℕ) (at t high low : ℕ) where
     pub left_end : i ≤ 0 → answer ≡ true
     unfolding pair bits is_prefix
     left_end z = let e : i ≡ 0 = omega arith in known.rest ∙ rw e
-
--- a marker and two symbols behind it are inside
-pub marker_room : (marked : Bool) (p n : ℕ) → marked ≡ true → p + data_at marked + 2 ≤ n → p + 4 ≤ n
-marker_room true p n e h = omega arith
-marker_room false p n e h = absurd (true≢false (sym e))
 
 module _ (marked : Bool) (f p : ℕ) (s : List ℕ) where
   abbrev D : List ℕ

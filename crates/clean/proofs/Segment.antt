@@ -7,7 +7,8 @@ use native.Mathlib.Omega.{arith}
 use native.Mathlib.Decide.{dec_le}
 use borrow.Author.Tests.{eqb-true}
 use lib.Dec.{eqb}
-use lib.ListN.{length, take, drop, length-drop}
+use lib.ListN.{length, get_or, take, drop, length-drop}
+use Rattle.code.proofs.laws.Lists.{drop_four}
 use lib.Seq.{drop-drop, length-take-le, take_all}
 use Rattle.code.specs.Segment.{check, separator, syndrome_of, block, segment, size, data_at}
 use Rattle.code.proofs.laws.Segment.{length-segment}
@@ -18,6 +19,21 @@ use Rattle.places.proofs.TestsAtPlaces.{block_past}
 use Rattle.tail.specs.Tails.{mark}
 use Rattle.clean.proofs.Parts.{prefix_append, segment_seen}
 use Rattle.clean.specs.Clean.{may_end, behind_message, stands, stands_at}
+
+-- four symbols, compared side by side
+
+and_nested : (a b c d : Bool) → (((a && b) && c) && d) ≡ (a && (b && (c && (d && true))))
+and_nested false b c d = refl
+and_nested true false c d = refl
+and_nested true true false d = refl
+and_nested true true true false = refl
+and_nested true true true true = refl
+
+pub four_symbols : (s : List ℕ) (to c x : ℕ) → to + 4 ≤ length s → (((eqb c (get_or s to 0) && eqb x (get_or s (to + 1) 0)) && eqb x (get_or s (to + 2) 0)) && eqb x (get_or s (to + 3) 0)) ≡ is_prefix (c ∷ x ∷ x ∷ x ∷ []) (drop to s)
+unfolding is_prefix
+four_symbols s to c x room =
+    and_nested (eqb c (get_or s to 0)) (eqb x (get_or s (to + 1) 0)) (eqb x (get_or s (to + 2) 0)) (eqb x (get_or s (to + 3) 0))
+    ∙ rw (drop_four s to 0 (omega arith))
 
 -- check and separators, and the syndrome behind them
 module _ (m s : List ℕ) (to : ℕ) where
@@ -109,15 +125,6 @@ module _ (marked : Bool) (f k : ℕ) (ks : List ℕ) (p : ℕ) (s : List ℕ) wh
 
     pub tail_decides : is_prefix (mark marked f D) S ≡ true → (b : Bool) → b ≡ is_prefix (behind_message (take k (drop d s))) (drop (d + k) s) → seen ≡ b
     tail_decides e b h = seen_parts ∙ rw (e, h)
-
--- another is to follow, or the strand ends
-pub may_follow : (ks : List ℕ) (end n : ℕ) → (length ks ≡ 0 → ⊥) → true ≡ may_end ks end n
-may_follow [] end n h = absurd (h refl)
-may_follow (k ∷ ks) end n h = refl
-
-pub may_last : (ks : List ℕ) (end n : ℕ) → length ks ≡ 0 → eqb end n ≡ may_end ks end n
-may_last [] end n e = refl
-may_last (k ∷ ks) end n e = absurd (omega arith)
 
 -- a part of k symbols, as the logic puts it
 pub from_to : (d k : ℕ) (s : List ℕ) (r : Bool) → r ≡ is_prefix (behind_message (take (d + k - d) (drop d s))) (drop (d + k) s) → r ≡ is_prefix (behind_message (take k (drop d s))) (drop (d + k) s)

@@ -12,7 +12,6 @@ ghost use Rattle.tail.specs.Tails.{mark, syndrome_in};
 ghost use Rattle.clean.specs.Clean.{Placed, may_end, behind_message, stands_at};
 
 use layers::{Layers, Summed};
-use places::comparisons::stands_at;
 use tail::{Tail, sep_of};
 
 // The syndrome symbols of a tail stand at the place.
@@ -20,14 +19,12 @@ pub fn syndrome_at(tail: Tail, s: &[u8], at: usize) -> bool
     requires { (at < reach) × (0 < tail.width) × (tail.width ≤ widest) }
     ensures { result ≡ is_prefix (syndrome_in tail) (drop at s.now) }
 {
-    let mut i = tail.width;
-    if s.len() < at + i {
+    if s.len() < at + tail.width {
         return false;
     }
     let mut h = tail.high;
     let mut l = tail.low;
-    while 0 < i {
-        i -= 1;
+    for i in (0..tail.width).rev() {
         if (2 * (h & 1) + (l & 1)) as u8 != s[at + i] {
             return false;
         }
@@ -53,10 +50,7 @@ pub fn marker_stands(s: &[u8], p: usize, marked: bool, f: u8) -> bool
 fn may_end(rest: &[u16], end: usize, n: usize) -> bool
     ensures { result ≡ may_end rest.now end n }
 {
-    if rest.len() != 0 {
-        return true;
-    }
-    end == n
+    !rest.is_empty() || end == n
 }
 
 // The syndrome of the symbols from d to before `to`, whose sums are known, stands behind the separator that follows them.
@@ -69,10 +63,7 @@ fn syndrome_stands(s: &[u8], d: usize, to: usize, end: usize, places: Layers) ->
     let from = to + 4;
     let written = layers::numbers(&s[from..end]);
     let own = layers::syndromes(&s[d..to], places);
-    if written.high != own.high {
-        return false;
-    }
-    written.low == own.low
+    written.high == own.high && written.low == own.low
 }
 
 // Check, separator and syndrome of the symbols from d to before `to`, whose sums are known, stand behind them.
@@ -84,10 +75,8 @@ fn tail_stands(s: &[u8], d: usize, to: usize, end: usize, sums: Summed) -> bool
 {
     let c = sums.check;
     let x = sep_of(c, s[to + 4], s[to + 5]);
-    if !stands_at(&[c, x, x, x], s, to) {
-        return false;
-    }
-    syndrome_stands(s, d, to, end, sums.places)
+    let same = (c == s[to]) & (x == s[to + 1]) & (x == s[to + 2]) & (x == s[to + 3]);
+    same && syndrome_stands(s, d, to, end, sums.places)
 }
 
 // The segment at p is clean: that of the k symbols at d, whose sums are known, stands there and may end where it does; `rest` is the

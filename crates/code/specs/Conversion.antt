@@ -3,12 +3,9 @@
 --   converted      that label
 --   convert_test   the tests of a conversion, 5, 8, 1, 2, 3, 13 and 5
 --   convert_call   what a conversion answers, and the lent buffer afterwards
-use Rattle.std.specs.Prelude.{cond, ◌&&◌, List, ℕ, eqb, ltb, length}
+use Rattle.std.specs.Prelude.{Result, Ok, Err, cond, ◌&&◌, List, ℕ, eqb, ltb, length}
+use Rattle.code.specs.declared.Refusal.{Refusal}
 use Rattle.code.specs.declared.Refusal.TheVariants.{ShortBuffer, TooLarge}
-use Rattle.code.specs.declared.Checked.{Checked}
-use Rattle.code.specs.declared.Checked.TheVariants.{Fine, Refused}
-use Rattle.code.specs.declared.Wrote.{Wrote}
-use Rattle.code.specs.declared.Wrote.TheVariants as W
 use Rattle.code.specs.Layers.{Word}
 use Rattle.code.specs.Refusals.{refuse, unless_refused}
 use Rattle.code.specs.Buffers.{over_front}
@@ -23,16 +20,16 @@ abbrev pub converted : List ℕ → List ℕ
 converted label = in_bytes (other_bits label)
 
 -- the tests of a conversion to a buffer of n bytes: those of the label, then whether the old editions carry its order, then the buffer
-abbrev pub convert_test : List ℕ → ℕ → Checked
+abbrev pub convert_test : List ℕ → ℕ → Result (Unit {0}) Refusal
 convert_test label n =
     unless_refused (label_read_test label)
     (refuse (eqb (edition_of label) 3 && too_large (order_of label)) TooLarge
-    (refuse (ltb n (length (converted label))) ShortBuffer Fine))
-    Refused
+    (refuse (ltb n (length (converted label))) ShortBuffer (Ok tt)))
+    Err
 
 -- what converting a label to a buffer answers, and the buffer afterwards: unchanged where it is refused
-abbrev pub convert_call : List ℕ → List ℕ → Wrote × List ℕ
+abbrev pub convert_call : List ℕ → List ℕ → Result ℕ Refusal × List ℕ
 convert_call label out =
     unless_refused (convert_test label (length out))
-    (W.Bytes (length (converted label)), over_front (converted label) out)
-    (λ r. (W.Refused r, out))
+    (Ok (length (converted label)), over_front (converted label) out)
+    (λ r. (Err r, out))

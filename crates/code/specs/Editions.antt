@@ -6,10 +6,8 @@
 --   ConvertedOnce   a label of an old edition that is taken is converted, if there is room
 --   TooLargeFirst   one of edition 3 that the old editions do not carry is refused with 13, before the buffer is looked at
 --   Apart           two orders never share a label that is written
-use Rattle.std.specs.Prelude.{◌≡◌, true, false, List, [], ℕ, ◌≤◌, length, take}
+use Rattle.std.specs.Prelude.{Ok, Err, ◌≡◌, true, false, List, [], ℕ, ◌≤◌, length, take}
 use Rattle.code.specs.declared.Refusal.TheVariants.{Label, TooLarge}
-use Rattle.code.specs.declared.Checked.TheVariants.{Fine, Refused}
-use Rattle.code.specs.declared.Wrote.TheVariants as W
 use Rattle.code.specs.Symbols.{Below}
 use Rattle.code.specs.Order.{Order, order, Taken}
 use Rattle.code.specs.Buffers.{over_front}
@@ -23,7 +21,7 @@ ReadsAsBefore = (label : List ℕ) → (edition_of label ≡ 3 → ⊥) → labe
 
 -- the reader from before edition 3 refuses each label of that edition that is taken, with 8
 abbrev pub TurnedDown : Type 0
-TurnedDown = (label : List ℕ) → edition_of label ≡ 3 → label_read_test label ≡ Fine → old_read label ≡ labelled (Refused Label) (order [] 0)
+TurnedDown = (label : List ℕ) → edition_of label ≡ 3 → label_read_test label ≡ Ok tt → old_read label ≡ Err Label
 
 -- the label of an order has edition 3 only where the old editions do not carry the order, and of these edition 1 for equal lengths
 pub record Oldest : Type 0 where
@@ -34,16 +32,16 @@ pub record Oldest : Type 0 where
 -- a label that is converted to a buffer comes back from there with its own bytes, to any buffer that has room
 abbrev pub ThereAndBack : Type 0
 ThereAndBack =
-    (label middle out : List ℕ) → Below 256 label → convert_test label (length middle) ≡ Fine → needed label ≤ length out →
-    convert_call (convert_call label middle).1 out ≡ (W.Bytes (needed label), over_front (take (needed label) label) out)
+    (label middle out : List ℕ) → Below 256 label → convert_test label (length middle) ≡ Ok tt → needed label ≤ length out →
+    convert_call (convert_call label middle).1 out ≡ (Ok (needed label), over_front (take (needed label) label) out)
 
 -- from an old edition nothing but a short buffer stands in its way
 abbrev pub ConvertedOnce : Type 0
-ConvertedOnce = (label : List ℕ) (n : ℕ) → (edition_of label ≡ 3 → ⊥) → label_read_test label ≡ Fine → length (converted label) ≤ n → convert_test label n ≡ Fine
+ConvertedOnce = (label : List ℕ) (n : ℕ) → (edition_of label ≡ 3 → ⊥) → label_read_test label ≡ Ok tt → length (converted label) ≤ n → convert_test label n ≡ Ok tt
 
 -- a label of edition 3 that the old editions do not carry is refused with 13, whatever buffer is lent
 abbrev pub TooLargeFirst : Type 0
-TooLargeFirst = (label : List ℕ) (n : ℕ) → edition_of label ≡ 3 → label_read_test label ≡ Fine → too_large (order_of label) ≡ true → convert_test label n ≡ Refused TooLarge
+TooLargeFirst = (label : List ℕ) (n : ℕ) → edition_of label ≡ 3 → label_read_test label ≡ Ok tt → too_large (order_of label) ≡ true → convert_test label n ≡ Err TooLarge
 
 -- two orders that have one label are one
 abbrev pub Apart : Type 0

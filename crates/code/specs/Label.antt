@@ -18,13 +18,10 @@
 --   labelled                  an order by value
 --   label_read                what a label that is read answers
 --   order_in                  the order that such an answer holds
-use Rattle.std.specs.Prelude.{Bool, true, false, cond, not, ◌&&◌, ◌||◌, List, [], ◌∷◌, ◌++◌, ℕ, zero, suc, ◌+◌, ◌-◌, ◌*◌, ◌/◌, eqb, ltb, length, get_or, take, drop, replicate}
+use Rattle.std.specs.Prelude.{Result, Ok, Err, Bool, true, false, cond, not, ◌&&◌, ◌||◌, List, [], ◌∷◌, ◌++◌, ℕ, zero, suc, ◌+◌, ◌-◌, ◌*◌, ◌/◌, eqb, ltb, length, get_or, take, drop, replicate}
+use Rattle.code.specs.declared.Refusal.{Refusal}
 use Rattle.code.specs.Limits.{most_segments, old_length, old_bytes}
 use Rattle.code.specs.declared.Refusal.TheVariants.{ShortBuffer, Label}
-use Rattle.code.specs.declared.Checked.{Checked}
-use Rattle.code.specs.declared.Checked.TheVariants.{Fine, Refused}
-use Rattle.code.specs.declared.Wrote.{Wrote}
-use Rattle.code.specs.declared.Wrote.TheVariants as W
 use Rattle.code.specs.declared.Labelled.{Labelled}
 use Rattle.code.specs.Layers.{Word, bits, number}
 use Rattle.code.specs.Refusals.{refuse, unless_refused, outside}
@@ -95,15 +92,15 @@ abbrev pub label_bytes : Order → List ℕ
 label_bytes o = in_bytes (label_bits o)
 
 -- the tests of a label for an order written to a buffer of n bytes
-abbrev pub label_write_test : Order → ℕ → Checked
-label_write_test o n = order_test o false (refuse (ltb n (length (label_bytes o))) ShortBuffer Fine)
+abbrev pub label_write_test : Order → ℕ → Result (Unit {0}) Refusal
+label_write_test o n = order_test o false (refuse (ltb n (length (label_bytes o))) ShortBuffer (Ok tt))
 
 -- what writing the label of an order to a buffer answers, and the buffer afterwards: unchanged where it is refused
-abbrev pub label_call : Order → List ℕ → Wrote × List ℕ
+abbrev pub label_call : Order → List ℕ → Result ℕ Refusal × List ℕ
 label_call o out =
     unless_refused (label_write_test o (length out))
-    (W.Bytes (length (label_bytes o)), over_front (label_bytes o) out)
-    (λ r. (W.Refused r, out))
+    (Ok (length (label_bytes o)), over_front (label_bytes o) out)
+    (λ r. (Err r, out))
 
 -- the number in w bits of bytes, behind the first i bits
 abbrev pub field : ℕ → ℕ → List ℕ → ℕ
@@ -172,32 +169,31 @@ bad_label label =
     (not (eqb (edition_of label) 1) || bad1 label)
 
 -- the tests 1, 2 and 3 of an order in a label of edition e: the old editions keep their own limits
-abbrev pub test_in : ℕ → Order → Checked
-test_in e o = cond (eqb e 3) (order_test o false Fine) (test_within old_length old_bytes o false Fine)
+abbrev pub test_in : ℕ → Order → Result (Unit {0}) Refusal
+test_in e o = cond (eqb e 3) (order_test o false (Ok tt)) (test_within old_length old_bytes o false (Ok tt))
 
 -- the tests of a label that is read
-abbrev pub label_read_test : List ℕ → Checked
+abbrev pub label_read_test : List ℕ → Result (Unit {0}) Refusal
 label_read_test label =
     refuse (ltb (length label) (needed label)) ShortBuffer
     (refuse (bad_label label) Label
     (test_in (edition_of label) (order_of label)))
 
 -- an order by value: zeros stand behind its lengths
-abbrev pub labelled : Checked → Order → Labelled
-labelled tested o =
+abbrev pub labelled : Order → Labelled
+labelled o =
     record {
-      tested = tested;
       b = o.b;
       count = length o.lengths;
       lengths = o.lengths ++ replicate (most_segments - length o.lengths) 0;
     }
 
--- the answer to an order that is tested: where it is refused there are no lengths and no bytes
-abbrev pub answer_to : Checked → Order → Labelled
-answer_to tested o = unless_refused tested (labelled Fine o) (λ r. labelled (Refused r) (order [] 0))
+-- the answer to an order that is tested: where it is refused there is none
+abbrev pub answer_to : Result (Unit {0}) Refusal → Order → Result Labelled Refusal
+answer_to tested o = unless_refused tested (Ok (labelled o)) Err
 
 -- what a label that is read answers
-abbrev pub label_read : List ℕ → Labelled
+abbrev pub label_read : List ℕ → Result Labelled Refusal
 label_read label = answer_to (label_read_test label) (order_of label)
 
 -- the order that an answer holds

@@ -5,18 +5,17 @@
 --   old_bad_label   a label was not as its edition lays it out
 --   old_read_test   the tests of a label that was read, 5, 8, 1, 2 and 3
 --   old_read        what a label that was read answered
-use Rattle.std.specs.Prelude.{Bool, false, cond, not, ◌||◌, List, ℕ, ◌+◌, ◌-◌, ◌*◌, eqb, ltb, length, drop}
+use Rattle.std.specs.Prelude.{Result, Ok, Bool, false, cond, not, ◌||◌, List, ℕ, ◌+◌, ◌-◌, ◌*◌, eqb, ltb, length, drop}
+use Rattle.code.specs.declared.Refusal.{Refusal}
 use Rattle.code.specs.declared.Refusal.TheVariants.{ShortBuffer, Label}
-use Rattle.code.specs.declared.Checked.{Checked}
-use Rattle.code.specs.declared.Checked.TheVariants.{Fine}
 use Rattle.code.specs.declared.Labelled.{Labelled}
 use Rattle.code.specs.Refusals.{refuse}
 use Rattle.code.specs.Order.{Order, order, test_within}
 use Rattle.code.specs.Label.{in_bits, from_bits, bytes_for, equal, field, edition_of, length_in, bytes_in1, repeated, bad1, answer_to}
 
 -- the tests 1, 2 and 3 of an order: k to 64 and B to 128
-abbrev pub old_test : Order → Checked
-old_test o = test_within 64 128 o false Fine
+abbrev pub old_test : Order → Result (Unit {0}) Refusal
+old_test o = test_within 64 128 o false (Ok tt)
 
 -- B and the number of lengths of a label of edition 2, and where its lengths end
 abbrev pub bytes_in2 : List ℕ → ℕ
@@ -52,12 +51,12 @@ abbrev pub old_bad_label : List ℕ → Bool
 old_bad_label label = cond (eqb (edition_of label) 2) (bad2 label) (not (eqb (edition_of label) 1) || bad1 label)
 
 -- the tests of a label that was read
-abbrev pub old_read_test : List ℕ → Checked
+abbrev pub old_read_test : List ℕ → Result (Unit {0}) Refusal
 old_read_test label =
     refuse (ltb (length label) (old_needed label)) ShortBuffer
     (refuse (old_bad_label label) Label
     (old_test (old_order_of label)))
 
 -- what a label that was read answered
-abbrev pub old_read : List ℕ → Labelled
+abbrev pub old_read : List ℕ → Result Labelled Refusal
 old_read label = answer_to (old_read_test label) (old_order_of label)

@@ -3,11 +3,9 @@
 --   quote_call    what a quote answers
 --   Right         what holds of these numbers
 --   QuotedRight   it holds of every answer; proved as `quoted_right` in proofs/laws/Quote.antt
-use Rattle.std.specs.Prelude.{◌≡◌, false, List, [], ℕ, ◌*◌, ◌≤◌, length}
-use Rattle.code.specs.declared.Checked.TheVariants.{Fine}
+use Rattle.std.specs.Prelude.{Result, Ok, Err, ◌≡◌, false, List, [], ℕ, ◌*◌, ◌≤◌, length}
+use Rattle.code.specs.declared.Refusal.{Refusal}
 use Rattle.code.specs.declared.Quote.{Quote}
-use Rattle.code.specs.declared.Quoted.{Quoted}
-use Rattle.code.specs.declared.Quoted.TheVariants.{Numbers, Refused}
 use Rattle.code.specs.Refusals.{unless_refused}
 use Rattle.code.specs.Layout.{extent}
 use Rattle.code.specs.Order.{Order, order_test}
@@ -21,8 +19,8 @@ abbrev pub quote_of : Order → ℕ → Quote
 quote_of o n = record { letters = n * extent false o.lengths; bytes = n * sheet_bytes (length o.lengths); starts = most_starts o.lengths }
 
 -- what a quote for n strands answers: it makes the tests 1, 2 and 3 of the order
-abbrev pub quote_call : Order → ℕ → Quoted
-quote_call o n = unless_refused (order_test o false Fine) (Numbers (quote_of o n)) Refused
+abbrev pub quote_call : Order → ℕ → Result Quote Refusal
+quote_call o n = unless_refused (order_test o false (Ok tt)) (Ok (quote_of o n)) Err
 
 -- what holds of the numbers of a quote for n strands: n strands have these letters, for every message of B bytes; n sheets of a reading have these
 -- bytes, whatever letters were received; no letters make a reading try more starts, and the empty strand makes it try as many
@@ -34,4 +32,4 @@ pub record Right (o : Order) (n : ℕ) (q : Quote) : Type 0 where
 
 -- for every order and every number of strands: what a quote answers is right
 abbrev pub QuotedRight : Type 0
-QuotedRight = (o : Order) (n : ℕ) (q : Quote) → quote_call o n ≡ Numbers q → Right o n q
+QuotedRight = (o : Order) (n : ℕ) (q : Quote) → quote_call o n ≡ Ok q → Right o n q

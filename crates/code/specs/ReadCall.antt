@@ -14,16 +14,13 @@
 --   piece_call      the part that a piece call hands back, and the refusal's number and place
 --   located_as      where a piece stands
 --   locate_call     where the piece of a segment stands, or the refusal
-use Rattle.std.specs.Prelude.{Bool, false, ◌||◌, List, [], map, ℕ, ◌+◌, ◌-◌, ltb, length, get_or, take, drop}
+use Rattle.std.specs.Prelude.{Result, Ok, Err, Bool, false, ◌||◌, List, [], map, ℕ, ◌+◌, ◌-◌, ltb, length, get_or, take, drop}
+use Rattle.code.specs.declared.Refusal.{Refusal}
 use Rattle.code.specs.declared.Decoded.{Decoded}
 use Rattle.code.specs.declared.Decoded.TheVariants as D
 use Rattle.code.specs.declared.Refusal.TheVariants.{Overlong, ShortBuffer, ForeignLetter, NoSuchSegment}
-use Rattle.code.specs.declared.Checked.{Checked}
-use Rattle.code.specs.declared.Checked.TheVariants.{Fine, Refused}
-use Rattle.code.specs.declared.Counted.{Counted}
-use Rattle.code.specs.declared.Counted.TheVariants as N
-use Rattle.code.specs.declared.Located.{Located}
-use Rattle.code.specs.declared.Located.TheVariants as L
+use Rattle.code.specs.declared.Counts.{Counts}
+use Rattle.std.specs.declared.ops.Range.{Range}
 use Rattle.code.specs.Symbols.{legible, decoded, bytes}
 use Rattle.code.specs.Layout.{sum}
 use Rattle.code.specs.Limits.{most_letters}
@@ -34,16 +31,16 @@ use Rattle.code.specs.Sheet.{marks_of, sheet_of, counts_of, sheet_bytes}
 use Rattle.code.specs.Strands.{Outcome, outcomes, messages_of, verdicts_of}
 
 -- a foreign letter is refused with its place; else what follows
-abbrev pub foreign_test : Decoded → Checked → Checked
+abbrev pub foreign_test : Decoded → Result (Unit {0}) Refusal → Result (Unit {0}) Refusal
 foreign_test (D.Whole unknown) next = next
-foreign_test (D.Foreign i) next = Refused (ForeignLetter i)
+foreign_test (D.Foreign i) next = Err (ForeignLetter i)
 
 -- a received strand of n letters has too many
 abbrev pub overlong : ℕ → Bool
 overlong n = ltb most_letters n
 
 -- tests 1 to 4 of n letters received for an order, and then what follows
-abbrev pub received_test : Order → ℕ → Checked → Checked
+abbrev pub received_test : Order → ℕ → Result (Unit {0}) Refusal → Result (Unit {0}) Refusal
 received_test o n next = order_test o false (refuse (overlong n) Overlong next)
 
 -- a message buffer of n bytes or a sheet buffer of m bytes is too short for an order
@@ -51,18 +48,18 @@ abbrev pub short_buffers : Order → ℕ → ℕ → Bool
 short_buffers o n m = ltb n o.b || ltb m (sheet_bytes (length o.lengths))
 
 -- the tests of a reading: letters cs for an order, a message buffer of n bytes and a sheet buffer of m bytes
-abbrev pub read_test : Order → List ℕ → ℕ → ℕ → Checked
+abbrev pub read_test : Order → List ℕ → ℕ → ℕ → Result (Unit {0}) Refusal
 read_test o cs n m =
     received_test o (length cs)
     (refuse (short_buffers o n m) ShortBuffer
-    (foreign_test (decoded cs) Fine))
+    (foreign_test (decoded cs) (Ok tt)))
 
 -- the tests of a piece call: letters cs for an order, and the segment's number i, from 1
-abbrev pub piece_test : Order → List ℕ → ℕ → Checked
+abbrev pub piece_test : Order → List ℕ → ℕ → Result (Unit {0}) Refusal
 piece_test o cs i =
     received_test o (length cs)
     (foreign_test (decoded cs)
-    (refuse (outside 1 (length o.lengths) i) NoSuchSegment Fine))
+    (refuse (outside 1 (length o.lengths) i) NoSuchSegment (Ok tt)))
 
 -- the outcomes of the segments of letters, for an order
 abbrev pub outcomes_of : Order → List ℕ → List Outcome
@@ -73,17 +70,17 @@ abbrev pub marks_for : Order → List ℕ → List ℕ
 marks_for o cs = marks_of (verdicts_of (outcomes_of o cs))
 
 -- what a reading that is taken answers, and leaves in the buffers lent for the message and the sheet
-abbrev pub read_as : List Outcome → List ℕ → List ℕ → Counted × (List ℕ × List ℕ)
+abbrev pub read_as : List Outcome → List ℕ → List ℕ → Result Counts Refusal × (List ℕ × List ℕ)
 read_as os message sheet =
     let marks = marks_of (verdicts_of os) in
-    (counts_of marks, (over_front (bytes (messages_of os)) message, over_front (sheet_of marks) sheet))
+    (Ok (counts_of marks), (over_front (bytes (messages_of os)) message, over_front (sheet_of marks) sheet))
 
 -- what reading letters cs for an order answers, and the buffers for message and sheet afterwards: unchanged where it is refused
-abbrev pub read_call : Order → List ℕ → List ℕ → List ℕ → Counted × (List ℕ × List ℕ)
+abbrev pub read_call : Order → List ℕ → List ℕ → List ℕ → Result Counts Refusal × (List ℕ × List ℕ)
 read_call o cs message sheet =
     unless_refused (read_test o cs (length message) (length sheet))
     (read_as (outcomes_of o cs) message sheet)
-    (λ r. (N.Refused r, (message, sheet)))
+    (λ r. (Err r, (message, sheet)))
 
 -- the pieces of outcomes
 abbrev pub pieces_of : List Outcome → List (List ℕ)
@@ -109,9 +106,9 @@ piece_call o cs i =
     (λ r. ([], (number_of r, place_of r)))
 
 -- where the piece behind the first i pieces stands
-abbrev pub located_as : List Outcome → ℕ → Located
-located_as os i = L.At (piece_start os i) (piece_start os i + piece_length os i)
+abbrev pub located_as : List Outcome → ℕ → Result (Range ℕ) Refusal
+located_as os i = Ok (record { start = piece_start os i; end = piece_start os i + piece_length os i })
 
 -- where the piece of segment i stands, or the refusal
-abbrev pub locate_call : Order → List ℕ → ℕ → Located
-locate_call o cs i = unless_refused (piece_test o cs i) (located_as (outcomes_of o cs) (i - 1)) L.Refused
+abbrev pub locate_call : Order → List ℕ → ℕ → Result (Range ℕ) Refusal
+locate_call o cs i = unless_refused (piece_test o cs i) (located_as (outcomes_of o cs) (i - 1)) Err

@@ -2,10 +2,10 @@
 --   Sent              letters that carry bytes and keep the one-edit conditions
 --   Given, Returned   what a call has to answer and leave in its buffers
 --   Demand3Call       demand 3 of a call
-use Rattle.std.specs.Prelude.{◌≡◌, true, false, List, ℕ, ◌+◌, length}
+use Rattle.std.specs.Prelude.{◌≡◌, true, false, List, ℕ, ◌+◌, length, Result, Ok, Err}
+use Rattle.code.specs.declared.Refusal.{Refusal}
 use Rattle.code.specs.declared.Refusal.TheVariants.{ShortBuffer}
-use Rattle.code.specs.declared.Counted.{Counted}
-use Rattle.code.specs.declared.Counted.TheVariants as N
+use Rattle.code.specs.declared.Counts.{Counts}
 use Rattle.code.specs.Symbols.{Below, letters, symbols}
 use Rattle.code.specs.Layout.{cut}
 use Rattle.code.specs.Order.{Order, Taken}
@@ -23,18 +23,18 @@ pub record Sent (o : Order) (cs bs s : List ℕ) : Type 0 where
   pub one_edit : OneEdit (cut o.lengths (symbols bs)) s
 
 -- a call that is not turned down gives the bytes bs and the marks, none of them lost
-pub record Given (o : Order) (cs bs message sheet : List ℕ) (result : Counted × (List ℕ × List ℕ)) : Type 0 where
+pub record Given (o : Order) (cs bs message sheet : List ℕ) (result : Result Counts Refusal × (List ℕ × List ℕ)) : Type 0 where
   pub clean : ℕ
   pub corrected : ℕ
   pub all_found : clean + corrected ≡ length o.lengths
   pub none_lost : count_of 2 (marks_for o cs) ≡ 0
-  pub gives : result ≡ (N.Counts clean corrected 0, (over_front bs message, over_front (sheet_of (marks_for o cs)) sheet))
+  pub gives : result ≡ (Ok (record { clean = clean; corrected = corrected; lost = 0 }), (over_front bs message, over_front (sheet_of (marks_for o cs)) sheet))
 
 -- short buffers alone turn a call down
-pub record Returned (o : Order) (cs bs message sheet : List ℕ) (result : Counted × (List ℕ × List ℕ)) : Type 0 where
-  pub turned_down : short_buffers o (length message) (length sheet) ≡ true → result ≡ (N.Refused ShortBuffer, (message, sheet))
+pub record Returned (o : Order) (cs bs message sheet : List ℕ) (result : Result Counts Refusal × (List ℕ × List ℕ)) : Type 0 where
+  pub turned_down : short_buffers o (length message) (length sheet) ≡ true → result ≡ (Err ShortBuffer, (message, sheet))
   pub given : short_buffers o (length message) (length sheet) ≡ false → Given o cs bs message sheet result
 
 -- demand 3 of a call for an order with the letters cs and two buffers: its answer with both buffers afterwards
-abbrev pub Demand3Call : (o : Order) (cs message sheet : List ℕ) (result : Counted × (List ℕ × List ℕ)) → Type 0
+abbrev pub Demand3Call : (o : Order) (cs message sheet : List ℕ) (result : Result Counts Refusal × (List ℕ × List ℕ)) → Type 0
 Demand3Call o cs message sheet result = (bs s : List ℕ) → Sent o cs bs s → Returned o cs bs message sheet result

@@ -1,15 +1,12 @@
 -- What is turned down (SPECIFICATION.md, table 4).
 --   number_of        the paper's number of a refusal
 --   place_of         the place that a refusal names
---   test_number      the number of a test's outcome
 --   refuse           a test before others
 --   unless_refused   what is answered after the tests
 --   outside          a number is outside its limits
-use Rattle.std.specs.Prelude.{Bool, true, false, ◌||◌, ℕ, ltb}
+use Rattle.std.specs.Prelude.{Result, Ok, Err, Bool, true, false, ◌||◌, ℕ, ltb}
 use Rattle.code.specs.declared.Refusal.{Refusal}
 use Rattle.code.specs.declared.Refusal.TheVariants.{SegmentLength, MessageSize, Cut, Overlong, ShortBuffer, ForeignLetter, TallyFull, Label, NoSuchSegment, TooLarge}
-use Rattle.code.specs.declared.Checked.{Checked}
-use Rattle.code.specs.declared.Checked.TheVariants.{Fine, Refused}
 
 -- the number of a refusal
 abbrev pub number_of : Refusal → ℕ
@@ -37,20 +34,15 @@ place_of Label = 0
 place_of NoSuchSegment = 0
 place_of TooLarge = 0
 
--- the number of a test's outcome: 0 where nothing is against it
-abbrev pub test_number : Checked → ℕ
-test_number Fine = 0
-test_number (Refused r) = number_of r
-
 -- a test before others: where it is met, its refusal
-abbrev pub refuse : Bool → Refusal → Checked → Checked
-refuse true r c = Refused r
+abbrev pub refuse : Bool → Refusal → Result (Unit {0}) Refusal → Result (Unit {0}) Refusal
+refuse true r c = Err r
 refuse false r c = c
 
 -- what is answered after the tests: as where nothing is against it, or as the refusal says
-abbrev pub unless_refused : {A : Type 0} → Checked → A → (Refusal → A) → A
-unless_refused Fine taken refused = taken
-unless_refused (Refused r) taken refused = refused r
+abbrev pub unless_refused : {A : Type 0} → Result (Unit {0}) Refusal → A → (Refusal → A) → A
+unless_refused (Ok _) taken refused = taken
+unless_refused (Err r) taken refused = refused r
 
 -- x is outside low .. high
 abbrev pub outside : ℕ → ℕ → ℕ → Bool

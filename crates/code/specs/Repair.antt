@@ -8,12 +8,12 @@
 --   repair        the linked word with the written syndrome, or none
 --   mended_word   a received word mended at a place
 --   mended        the word that an answer of a repair stands for
+use Rattle.std.specs.Prelude as P
 use Rattle.std.specs.Prelude.{Bool, true, false, not, cond, List, [], ◌∷◌, ◌++◌, map, ℕ, suc, eqb, take, drop, set}
 use Rattle.std.proofs.Math.Option.{Option, some, none}
 use Rattle.code.specs.declared.Link.{Link}
 use Rattle.code.specs.declared.Link.TheVariants.{Changed, More, Less}
-use Rattle.code.specs.declared.Repair.{Repair}
-use Rattle.code.specs.declared.Repair.TheVariants.{At, Nothing}
+use Rattle.code.specs.declared.Fix.{Fix}
 use Rattle.code.specs.Layers.{Word, syndrome}
 
 module _ {A : Type 0} where
@@ -66,6 +66,6 @@ mended_word More r i b = leave_out i r
 mended_word Less r i b = put_in i b r
 
 -- the word that an answer stands for
-unfoldable pub mended : Link → Word → Repair → Option Word
-mended l r (At i b) = some (mended_word l r i b)
-mended l r Nothing = none
+unfoldable pub mended : Link → Word → P.Option Fix → Option Word
+mended l r (P.Some f) = some (mended_word l r f.at f.bit)
+mended l r P.None = none

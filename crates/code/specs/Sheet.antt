@@ -10,8 +10,7 @@ use Rattle.code.specs.Symbols.{bytes}
 use Rattle.code.specs.declared.Edit.TheVariants.{None, Sub, Del, Ins}
 use Rattle.code.specs.declared.Verdict.{Verdict}
 use Rattle.code.specs.declared.Verdict.TheVariants.{Read, Unknown, Lost, NoStart}
-use Rattle.code.specs.declared.Counted.{Counted}
-use Rattle.code.specs.declared.Counted.TheVariants.{Counts}
+use Rattle.code.specs.declared.Counts.{Counts}
 
 -- the mark of a verdict: 0 clean, 1 corrected, 2 lost
 abbrev pub mark_of : Verdict → ℕ
@@ -41,5 +40,5 @@ count_of n [] = 0
 count_of n (x ∷ marks) = cond (eqb x n) 1 0 + count_of n marks
 
 -- how many marks are clean, corrected and lost
-abbrev pub counts_of : List ℕ → Counted
-counts_of marks = Counts (count_of 0 marks) (count_of 1 marks) (count_of 2 marks)
+abbrev pub counts_of : List ℕ → Counts
+counts_of marks = record { clean = count_of 0 marks; corrected = count_of 1 marks; lost = count_of 2 marks }

@@ -1,39 +1,43 @@
-// The enums that the house's answers use. What they mean is said in specs/.
+// The types of what is answered and said. What they mean is said in specs/.
 
 #![tactic(auto)]
 
+ghost use Rattle.std.specs.Prelude.{◌≡◌, take};
+ghost use Rattle.code.specs.Refusals.{number_of, place_of};
+
 // What a byte of a strand is: a letter with its symbol, the letter N, which stands for an unknown one, or no letter.
-#[derive(Clone, Copy)]
+#[derive(Clone, Copy, Debug, PartialEq, Eq)]
 pub enum Letter {
     Symbol(u8),
     Unknown,
     Foreign,
 }
 
-// A strand of letters throughout, and whether an N is among them; or where its first foreign byte stands.
-#[derive(Clone, Copy)]
+// A strand of letters throughout, and whether an N is among them; or where its first foreign byte stands. A Result of a bool and a usize would name
+// neither.
+#[derive(Clone, Copy, Debug, PartialEq, Eq)]
 pub enum Decoded {
     Whole(bool),
     Foreign(usize),
 }
 
 // How a received word differs from the sent one.
-#[derive(Clone, Copy)]
+#[derive(Clone, Copy, Debug, PartialEq, Eq)]
 pub enum Link {
     Changed,
     More,
     Less,
 }
 
-// Where a layer is mended and the bit that belongs there, or that no word fits.
-#[derive(Clone, Copy)]
-pub enum Repair {
-    At(usize, bool),
-    Nothing,
+// Where a layer is mended, and the bit that belongs there.
+#[derive(Clone, Copy, Debug, PartialEq, Eq)]
+pub struct Fix {
+    pub at: usize,
+    pub bit: bool,
 }
 
 // Why a call is turned down, in the order of the numbers 1 to 9 and 13.
-#[derive(Clone, Copy)]
+#[derive(Clone, Copy, Debug, PartialEq, Eq)]
 pub enum Refusal {
     SegmentLength,
     MessageSize,
@@ -47,77 +51,82 @@ pub enum Refusal {
     TooLarge,
 }
 
-// The outcome of a test: nothing against it, or why it is turned down.
-#[derive(Clone, Copy)]
-pub enum Checked {
-    Fine,
-    Refused(Refusal),
+impl Refusal {
+    // The place that a refusal names: for a foreign letter its own, from 0; for any other 0.
+    pub fn place(self) -> usize
+        ensures { result ≡ place_of self }
+    {
+        if let Refusal::ForeignLetter(i) = self {
+            i
+        } else {
+            0
+        }
+    }
 }
 
-// What a writing answers: how many bytes were written to the front of the lent buffer.
-#[derive(Clone, Copy)]
-pub enum Wrote {
-    Bytes(usize),
-    Refused(Refusal),
+// The number of a refusal, 1 to 9 or 13.
+impl From<Refusal> for u8 {
+    ghost from_gives = { λ r n. n ≡ number_of r };
+
+    fn from(r: Refusal) -> u8 {
+        match r {
+            Refusal::SegmentLength => 1,
+            Refusal::MessageSize => 2,
+            Refusal::Cut => 3,
+            Refusal::Overlong => 4,
+            Refusal::ShortBuffer => 5,
+            Refusal::ForeignLetter(_) => 6,
+            Refusal::TallyFull => 7,
+            Refusal::Label => 8,
+            Refusal::NoSuchSegment => 9,
+            Refusal::TooLarge => 13,
+        }
+    }
 }
 
-// What the reader answers: how many segments are clean, corrected and lost.
-#[derive(Clone, Copy)]
-pub enum Counted {
-    Counts(u32, u32, u32),
-    Refused(Refusal),
-}
-
-// What locating a piece answers: where it starts and where it ends.
-#[derive(Clone, Copy)]
-pub enum Located {
-    At(usize, usize),
-    Refused(Refusal),
-}
-
-// What reading a label answers: whether it is taken, B, and the layout, which is the first `count` of `lengths`.
-#[derive(Clone, Copy)]
-pub struct Labelled {
-    pub tested: Checked,
-    pub b: u32,
-    pub count: usize,
-    pub lengths: [u16; 64],
-}
-
-// How many strands were read, and their segments by mark.
-#[derive(Clone, Copy)]
-pub struct Tally {
-    pub strands: u32,
+// How many segments of a reading are clean, corrected and lost.
+#[derive(Clone, Copy, Debug, PartialEq, Eq)]
+pub struct Counts {
     pub clean: u32,
     pub corrected: u32,
     pub lost: u32,
 }
 
-// What adding to a tally answers: the tally with the counts added.
-#[derive(Clone, Copy)]
-pub enum Tallied {
-    Sum(Tally),
-    Refused(Refusal),
+// The order of a label that is read: B, and the layout, which is the first `count` of `lengths`.
+#[derive(Clone, Copy, Debug, PartialEq, Eq)]
+pub struct Labelled {
+    pub b: u32,
+    pub count: usize,
+    pub lengths: [u16; 64],
+}
+
+impl Labelled {
+    // The lengths of the layout.
+    pub fn lengths(&self) -> &[u16]
+        ensures { result.now ≡ take self.now.count self.now.lengths }
+    {
+        self.lengths.get(..self.count).unwrap_or(&self.lengths)
+    }
+}
+
+// How many strands were read, and their segments by mark.
+#[derive(Clone, Copy, Debug, PartialEq, Eq)]
+pub struct Tally {
+    pub strands: u32,
+    pub counts: Counts,
 }
 
 // What strands of one order take: letters to order and bytes of sheets, both for all of them together; and the most starts that the scans of
 // one reading try.
-#[derive(Clone, Copy)]
+#[derive(Clone, Copy, Debug, PartialEq, Eq)]
 pub struct Quote {
     pub letters: u32,
     pub bytes: u32,
     pub starts: u32,
 }
 
-// What a quote answers.
-#[derive(Clone, Copy)]
-pub enum Quoted {
-    Numbers(Quote),
-    Refused(Refusal),
-}
-
 // How a piece differs from the segment written anew, with its place and symbol.
-#[derive(Clone, Copy)]
+#[derive(Clone, Copy, Debug, PartialEq, Eq)]
 pub enum Edit {
     None,
     Sub(usize, u8),
@@ -126,17 +135,10 @@ pub enum Edit {
 }
 
 // What is said of a segment: read with an edit; read with none from a piece with an N; lost in a step; lost for want of a start.
-#[derive(Clone, Copy)]
+#[derive(Clone, Copy, Debug, PartialEq, Eq)]
 pub enum Verdict {
     Read(Edit),
     Unknown,
     Lost(u8),
     NoStart,
-}
-
-// What asking for the verdict of one segment answers; its edit carries the number of the letter, N among the received ones.
-#[derive(Clone, Copy)]
-pub enum Reported {
-    Said(Verdict),
-    Refused(Refusal),
 }

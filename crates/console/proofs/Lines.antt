@@ -13,7 +13,7 @@ use lib.ListN.{length, take}
 use lib.Seq.{take_at}
 use Rattle.code.specs.Label.{needed}
 use Rattle.code.proofs.laws.Label.{needed_most}
-use Rattle.text.specs.declared.hex.Hex.TheVariants.{Bytes, Bad}
+use Rattle.std.specs.Prelude.{Some, None}
 use Rattle.text.specs.HexDigit.{no_digit, all_digits}
 use Rattle.text.specs.Hex.{hex_bytes, decode_call}
 use Rattle.text.proofs.laws.Hex.{length-hex_bytes, decode_good, decode_bad}
@@ -37,19 +37,19 @@ module _ (text buffer bytes : List ℕ) (room : most_label ≤ length buffer) wh
   too_long : leb (length text / 2) (length buffer) ≡ false → size ≡ false
   too_long e = ne_eqb (length (hex_bytes text)) (needed (hex_bytes text)) (λ q. omega (arith, leb-false (length text / 2) (length buffer) e, needed_most (hex_bytes text), length-hex_bytes text))
 
-  pub no_digits : (Bad, bytes) ≡ decode_call text buffer → Held text Bad bytes
+  pub no_digits : (None, bytes) ≡ decode_call text buffer → Held text None bytes
   no_digits h = not_held (eqb (length text % 2) 0 && all_digits no_digit text) (leb (length text / 2) (length buffer)) size too_long (decode_bad text buffer bytes h)
 
   -- the bytes that were decoded
-  module _ (n : ℕ) (h : (Bytes n, bytes) ≡ decode_call text buffer) (part : List ℕ) (f : part ≡ take n bytes) where
+  module _ (n : ℕ) (h : (Some n, bytes) ≡ decode_call text buffer) (part : List ℕ) (f : part ≡ take n bytes) where
     part_is : take n bytes ≡ hex_bytes text
     part_is = let g = decode_good text buffer bytes n h in rw (g.1, g.2) (take_at (hex_bytes text) _ _ refl)
 
     holds_is : holds_label text ≡ eqb (length part) (needed part)
     holds_is = held (eqb (length text % 2) 0 && all_digits no_digit text) (leb (length text / 2) (length buffer)) size (decode_good text buffer bytes n h).0 ∙ ap (λ (x : List ℕ). eqb (length x) (needed x)) (sym (f ∙ part_is))
 
-    pub other_size : eqb (length part) (needed part) ≡ false → Held text Bad bytes
+    pub other_size : eqb (length part) (needed part) ≡ false → Held text None bytes
     other_size e = holds_is ∙ e
 
-    pub Held-label : eqb (length part) (needed part) ≡ true → Held text (Bytes n) bytes
+    pub Held-label : eqb (length part) (needed part) ≡ true → Held text (Some n) bytes
     Held-label e = (holds_is ∙ e, part_is)

@@ -2,26 +2,26 @@
 
 #![tactic(auto)]
 
+mod program;
 #[cfg(test)]
 mod tests;
 
-ghost use Rattle.std.specs.Prelude.{◌≡◌, ◌+◌, ◌<◌, ◌≤◌, true, IfOk, IfSome, MatchResult, OnErr, OnOk, length, take};
+ghost use Rattle.std.specs.Prelude.{◌≡◌, ◌<◌, ◌≤◌, true, IfOk, IfSome, MatchResult, OnErr, OnOk, length, take};
 ghost use Rattle.std.specs.Io.KnownBytes.{Appends, Consumes, Keeps};
 ghost use Rattle.std.specs.Process.{exit_status};
-ghost use Rattle.text.specs.Put.{Appended};
+ghost use Rattle.text.specs.Put.{Spare, Grown};
 ghost use Rattle.console.specs.Streams.{is_given, SaidIf, Came, Went};
 ghost use Rattle.console.specs.LabelLine.{most_label, Held, order_line};
 ghost use Rattle.console.specs.RefusedLine.{refused_line, refused_room};
 
 use code::{Labelled, Refusal};
+pub use program::{Program, run, start};
 use std::env::FillError;
 use std::io;
 use std::io::Write;
 use std::process::ExitCode;
-use text::decimal::put_named;
-use text::hex::Hex;
+use text::Text;
 use text::lines::front;
-use text::put::put;
 
 // What a program can't go on after: a read of its input or a write of its output that failed.
 #[derive(Clone, Copy)]
@@ -60,6 +60,7 @@ pub fn read_input<R: io::Read>(reader: &mut R, input: &mut [u8]) -> io::Result<u
     ensures room { OnErr result (0 < length input.old) }
     ensures part { OnErr result (Came (R.remaining reader.old) (R.remaining reader.new) input.new) }
 {
+    // By hand: std reads to the end, or as many bytes as there is room for.
     let mut done = 0;
     while done < input.len() {
         let n = reader.read(&mut input[done..])?;
@@ -77,6 +78,7 @@ pub fn write_output<W: io::Write>(writer: &mut W, output: &[u8]) -> io::Result<(
     ensures some { OnErr result (0 < length output.now) }
     ensures part { OnErr result (Went (W.contents writer.old) (W.contents writer.new) output.now) }
 {
+    // By hand: std's write_all does not say what a failed write has written.
     let mut done = 0;
     while done < output.len() {
         let sent = writer.write(&output[done..])?;
@@ -114,41 +116,36 @@ pub fn ended<W: io::Write>(told: &mut W, program: &str, ran: Result<(), Failure>
     ExitCode::from(1)
 }
 
-// The line for a refusal, behind the first `at` bytes of `out`; the answer is where it ends.
-pub fn put_refused(out: &mut [u8], at: usize, r: Refusal) -> usize
-    requires { at + refused_room ≤ length out.old }
-    ensures { Appended out.old at (refused_line r) out.new result }
+// The line for a refusal.
+pub fn put_refused(out: &mut Text, r: Refusal)
+    requires { Spare out.old refused_room }
+    ensures { Grown out.old (refused_line r) out.new }
 {
-    let end = put_named(out, at, b"refused ", refusal::number_of(r) as u64);
-    put(out, end, b"\n")
+    out.put_named(b"refused ", u64::from(u8::from(r)));
+    out.put(b"\n");
 }
 
 // The most bytes that a label needs: one of edition 3 that lists 127 lengths.
 pub const MOST_LABEL: usize = 146;
 
-// The bytes of the label that a line holds, at the front of `label`, and their number: exactly those that the label needs, two digits each. Bad is a
-// line that holds none.
-pub fn label_of(line: &[u8], label: &mut [u8]) -> Hex
+// The bytes of the label that a line holds, at the front of `label`, and their number: exactly those that the label needs, two digits each. None is
+// for a line that holds none.
+pub fn label_of(line: &[u8], label: &mut [u8]) -> Option<usize>
     requires { most_label ≤ length label.old }
     ensures { Held line.now result label.new }
 {
-    let decoded = text::hex::decode(line, label);
-    let Hex::Bytes(n) = decoded else {
-        return Hex::Bad;
-    };
+    let n = text::hex::decode(line, label)?;
     if !label::is_whole(front(label, n)) {
-        return Hex::Bad;
+        return None;
     }
-    Hex::Bytes(n)
+    Some(n)
 }
 
 // The order of the line that holds the label, or refused 8.
-pub fn order_of(line: &[u8]) -> Labelled
+pub fn order_of(line: &[u8]) -> Result<Labelled, Refusal>
     ensures { result ≡ order_line line.now }
 {
     let mut bytes = [0u8; MOST_LABEL];
-    let Hex::Bytes(n) = label_of(line, &mut bytes) else {
-        return label::refused(Refusal::Label);
-    };
+    let n = label_of(line, &mut bytes).ok_or(Refusal::Label)?;
     label::read(front(&bytes, n))
 }

@@ -3,10 +3,9 @@
 --   convert_text                  the same for a line
 --   convert_output                what is printed for an input
 --   most_converted, output_room   room for a converted label, and for all that is printed
-use Rattle.std.specs.Prelude.{cond, List, [], ◌∷◌, ◌++◌, ℕ, ◌+◌, ◌*◌, take, replicate}
+use Rattle.std.specs.Prelude.{Result, Ok, Err, cond, List, [], ◌∷◌, ◌++◌, ℕ, ◌+◌, ◌*◌, take, replicate}
+use Rattle.code.specs.declared.Refusal.{Refusal}
 use Rattle.code.specs.declared.Refusal.TheVariants.{Label}
-use Rattle.code.specs.declared.Wrote.{Wrote}
-use Rattle.code.specs.declared.Wrote.TheVariants as W
 use Rattle.code.specs.Conversion.{convert_call}
 use Rattle.text.specs.Lines.{feed, line}
 use Rattle.text.specs.Hex.{hex_bytes, hex_digits}
@@ -18,9 +17,9 @@ abbrev pub most_converted : ℕ
 most_converted = 75
 
 -- what a conversion answers: the label's digits in a line, or the refusal
-unfoldable pub shown : Wrote × List ℕ → List ℕ
-shown (W.Bytes n, label) = hex_digits (take n label) ++ feed ∷ []
-shown (W.Refused r, label) = refused_line r
+unfoldable pub shown : Result ℕ Refusal × List ℕ → List ℕ
+shown (Ok n, label) = hex_digits (take n label) ++ feed ∷ []
+shown (Err r, label) = refused_line r
 
 -- the same for a line, with a buffer of zeros: the line holds a label, or refused 8
 unfoldable pub convert_text : List ℕ → List ℕ

@@ -8,7 +8,7 @@ pub mod structs;
 
 ghost use Rattle.std.specs.Prelude.{◌≡◌};
 ghost use Rattle.code.specs.Symbols.{symbol_of};
-ghost use Rattle.code.specs.Refusals.{test_number};
+ghost use Rattle.code.specs.Refusals.{number_of};
 ghost use Rattle.code.specs.Writing.{write_call};
 ghost use Rattle.code.specs.ReadCall.{read_call, locate_call};
 ghost use Rattle.code.specs.Order.{order};
@@ -18,10 +18,10 @@ ghost use Rattle.code.specs.Conversion.{convert_call};
 ghost use Rattle.code.specs.Quote.{quote_call};
 ghost use Rattle.code.specs.Tallies.{tallied};
 ghost use Rattle.dnalm.specs.CallAnswers.{answered, from_letter, from_wrote, from_counted, from_located};
-ghost use Rattle.dnalm.specs.CallAnswers.{in_numbers, from_verdict, from_reported, from_labelled, from_quoted, as_tally, from_tallied};
+ghost use Rattle.dnalm.specs.CallAnswers.{in_numbers, from_verdict, from_reported, from_labelled, from_quoted, as_tally, as_counts, from_tallied};
 ghost use Rattle.dnalm.specs.Demand3Counts.{Demand3Counts};
 
-use code::{Checked, Counted, Edit, Letter, Located, Reported, Verdict, Wrote};
+use code::{Edit, Letter, Refusal, Verdict};
 use lines::letter_of;
 use structs::{Counts, Order, Piece, Quoted, Said, Tallied, Tally, Written};
 
@@ -39,20 +39,27 @@ pub extern "C" fn dnalm_letter(byte: u8) -> u8
     }
 }
 
+// The number of a refusal.
+fn number_of(r: Refusal) -> u32
+    ensures { result ≡ number_of r }
+{
+    u32::from(u8::from(r))
+}
+
 // The answer of a writing in numbers.
-fn told(wrote: Wrote) -> Written
+fn told(wrote: Result<usize, Refusal>) -> Written
     ensures { result ≡ from_wrote wrote }
 {
     match wrote {
-        Wrote::Bytes(n) => Written {
+        Ok(n) => Written {
             refusal: 0,
             place: 0,
             length: n,
         },
-        Wrote::Refused(r) => Written {
-            refusal: refusal::number_of(r) as u32,
-            place: refusal::place_of(r),
-            length: 0,
+        Err(r) => Written {
+            refusal: number_of(r),
+            place: r.place(),
+            ..Written::default()
         },
     }
 }
@@ -81,21 +88,18 @@ pub extern "C" fn dnalm_read(
     ensures one_edit { let o = order lengths.now b in
         Demand3Counts o letters.now message.old sheet.old (result, (message.new, sheet.new)) }
 {
-    let counted = reader::read(lengths, b, letters, message, sheet);
-    match counted {
-        Counted::Counts(clean, corrected, lost) => Counts {
+    match reader::read(lengths, b, letters, message, sheet) {
+        Ok(n) => Counts {
             refusal: 0,
             place: 0,
-            clean,
-            corrected,
-            lost,
+            clean: n.clean,
+            corrected: n.corrected,
+            lost: n.lost,
         },
-        Counted::Refused(r) => Counts {
-            refusal: refusal::number_of(r) as u32,
-            place: refusal::place_of(r),
-            clean: 0,
-            corrected: 0,
-            lost: 0,
+        Err(r) => Counts {
+            refusal: number_of(r),
+            place: r.place(),
+            ..Counts::default()
         },
     }
 }
@@ -105,19 +109,17 @@ pub extern "C" fn dnalm_read(
 pub extern "C" fn dnalm_piece(lengths: &[u16], b: u32, letters: &[u8], segment: u32) -> Piece
     ensures { let o = order lengths.now b in result ≡ from_located (locate_call o letters.now segment) }
 {
-    let located = pieces::locate(lengths, b, letters, segment);
-    match located {
-        Located::At(from, to) => Piece {
+    match pieces::locate(lengths, b, letters, segment) {
+        Ok(span) => Piece {
             refusal: 0,
             place: 0,
-            start: from,
-            length: to - from,
+            start: span.start,
+            length: span.end - span.start,
         },
-        Located::Refused(r) => Piece {
-            refusal: refusal::number_of(r) as u32,
-            place: refusal::place_of(r),
-            start: 0,
-            length: 0,
+        Err(r) => Piece {
+            refusal: number_of(r),
+            place: r.place(),
+            ..Piece::default()
         },
     }
 }
@@ -149,12 +151,10 @@ fn verdict_told(v: Verdict) -> Said
     ensures { result ≡ from_verdict v }
 {
     match v {
-        Verdict::Read(e) => match e {
-            Edit::None => said(0, 0, 0, 0),
-            Edit::Sub(i, x) => said(2, i, letter_of(x), 0),
-            Edit::Del(i, x) => said(3, i, letter_of(x), 0),
-            Edit::Ins(i, x) => said(4, i, letter_of(x), 0),
-        },
+        Verdict::Read(Edit::None) => said(0, 0, 0, 0),
+        Verdict::Read(Edit::Sub(i, x)) => said(2, i, letter_of(x), 0),
+        Verdict::Read(Edit::Del(i, x)) => said(3, i, letter_of(x), 0),
+        Verdict::Read(Edit::Ins(i, x)) => said(4, i, letter_of(x), 0),
         Verdict::Unknown => said(1, 0, 0, 0),
         Verdict::Lost(step) => said(5, 0, 0, step),
         Verdict::NoStart => said(6, 0, 0, 0),
@@ -166,16 +166,12 @@ fn verdict_told(v: Verdict) -> Said
 pub extern "C" fn dnalm_verdict(lengths: &[u16], b: u32, letters: &[u8], segment: u32) -> Said
     ensures { let o = order lengths.now b in result ≡ from_reported (verdict_call o letters.now segment) }
 {
-    let reported = report::verdict(lengths, b, letters, segment);
-    match reported {
-        Reported::Said(v) => verdict_told(v),
-        Reported::Refused(r) => Said {
-            refusal: refusal::number_of(r) as u32,
-            place: refusal::place_of(r),
-            kind: 0,
-            at: 0,
-            letter: 0,
-            step: 0,
+    match report::verdict(lengths, b, letters, segment) {
+        Ok(v) => verdict_told(v),
+        Err(r) => Said {
+            refusal: number_of(r),
+            place: r.place(),
+            ..Said::default()
         },
     }
 }
@@ -196,29 +192,27 @@ pub extern "C" fn dnalm_convert_label(bytes: &[u8], out: &mut [u8]) -> Written
     told(label::convert(bytes, out))
 }
 
-// The number of a test's outcome, 0 where nothing is against it.
-fn test_number(tested: Checked) -> u32
-    ensures { result ≡ test_number tested }
-{
-    match tested {
-        Checked::Fine => 0,
-        Checked::Refused(r) => refusal::number_of(r) as u32,
-    }
-}
-
 // Reads a label and answers its order, as `label::read` does.
 #[unsafe(no_mangle)]
 pub extern "C" fn dnalm_read_label(bytes: &[u8]) -> Order
     ensures { result ≡ from_labelled (label_read bytes.now) }
 {
-    let read = label::read(bytes);
-    let tested = read.tested;
-    let lengths = read.lengths;
-    Order {
-        refusal: test_number(tested),
-        b: read.b,
-        count: read.count,
-        lengths,
+    match label::read(bytes) {
+        Ok(label) => {
+            let lengths = label.lengths;
+            Order {
+                refusal: 0,
+                b: label.b,
+                count: label.count,
+                lengths,
+            }
+        }
+        Err(r) => Order {
+            refusal: number_of(r),
+            b: 0,
+            count: 0,
+            lengths: [0; 64],
+        },
     }
 }
 
@@ -227,19 +221,16 @@ pub extern "C" fn dnalm_read_label(bytes: &[u8]) -> Order
 pub extern "C" fn dnalm_quote(lengths: &[u16], b: u32, strands: u16) -> Quoted
     ensures { let o = order lengths.now b in result ≡ from_quoted (quote_call o strands) }
 {
-    let quoted = quote::quote(lengths, b, strands);
-    match quoted {
-        code::Quoted::Numbers(q) => Quoted {
+    match quote::quote(lengths, b, strands) {
+        Ok(q) => Quoted {
             refusal: 0,
             letters: q.letters,
             bytes: q.bytes,
             starts: q.starts,
         },
-        code::Quoted::Refused(r) => Quoted {
-            refusal: refusal::number_of(r) as u32,
-            letters: 0,
-            bytes: 0,
-            starts: 0,
+        Err(r) => Quoted {
+            refusal: number_of(r),
+            ..Quoted::default()
         },
     }
 }
@@ -247,29 +238,35 @@ pub extern "C" fn dnalm_quote(lengths: &[u16], b: u32, strands: u16) -> Quoted
 // Adds the counts of one reading and one strand to a tally, as `tally::add` does. A refusal answers the old counts.
 #[unsafe(no_mangle)]
 pub extern "C" fn dnalm_add_to_tally(t: Tally, clean: u32, corrected: u32, lost: u32) -> Tallied
-    ensures { result ≡ from_tallied t (tallied (as_tally t) clean corrected lost) }
+    ensures { result ≡ from_tallied t (tallied (as_tally t) (as_counts clean corrected lost)) }
 {
     let old = code::Tally {
         strands: t.strands,
-        clean: t.clean,
-        corrected: t.corrected,
-        lost: t.lost,
-    };
-    let added = tally::add(old, clean, corrected, lost);
-    match added {
-        code::Tallied::Sum(u) => Tallied {
-            refusal: 0,
-            strands: u.strands,
-            clean: u.clean,
-            corrected: u.corrected,
-            lost: u.lost,
+        counts: code::Counts {
+            clean: t.clean,
+            corrected: t.corrected,
+            lost: t.lost,
         },
-        code::Tallied::Refused(r) => Tallied {
-            refusal: refusal::number_of(r) as u32,
-            strands: old.strands,
-            clean: old.clean,
-            corrected: old.corrected,
-            lost: old.lost,
+    };
+    let read = code::Counts {
+        clean,
+        corrected,
+        lost,
+    };
+    match tally::add(old, read) {
+        Ok(sum) => Tallied {
+            refusal: 0,
+            strands: sum.strands,
+            clean: sum.counts.clean,
+            corrected: sum.counts.corrected,
+            lost: sum.counts.lost,
+        },
+        Err(r) => Tallied {
+            refusal: number_of(r),
+            strands: t.strands,
+            clean: t.clean,
+            corrected: t.corrected,
+            lost: t.lost,
         },
     }
 }

@@ -2,7 +2,7 @@
 
 // What a writing answers: how many bytes were written; of a strand, its letters.
 #[repr(C)]
-#[derive(Clone, Copy)]
+#[derive(Clone, Copy, Debug, Default, PartialEq, Eq)]
 pub struct Written {
     pub refusal: u32,
     pub place: usize,
@@ -11,7 +11,7 @@ pub struct Written {
 
 // What a reading answers: how many segments are clean, corrected and lost.
 #[repr(C)]
-#[derive(Clone, Copy)]
+#[derive(Clone, Copy, Debug, Default, PartialEq, Eq)]
 pub struct Counts {
     pub refusal: u32,
     pub place: usize,
@@ -22,7 +22,7 @@ pub struct Counts {
 
 // What a piece call answers: where the piece starts in the letters, and how many letters it has.
 #[repr(C)]
-#[derive(Clone, Copy)]
+#[derive(Clone, Copy, Debug, Default, PartialEq, Eq)]
 pub struct Piece {
     pub refusal: u32,
     pub place: usize,
@@ -33,7 +33,7 @@ pub struct Piece {
 // What a verdict call answers: the kind of what is said of a segment, 0 clean, 1 unknown, 2 sub, 3 del, 4 ins, 5 lost in a step, 6 lost for want of a
 // start; the place of its edit in the written segment, from 0, and its letter in ASCII; the step that lost it. What it does not have is 0.
 #[repr(C)]
-#[derive(Clone, Copy)]
+#[derive(Clone, Copy, Debug, Default, PartialEq, Eq)]
 pub struct Said {
     pub refusal: u32,
     pub place: usize,
@@ -45,7 +45,7 @@ pub struct Said {
 
 // What reading a label answers: B, and the layout, which is the first `count` of `lengths`.
 #[repr(C)]
-#[derive(Clone, Copy)]
+#[derive(Clone, Copy, Debug, PartialEq, Eq)]
 pub struct Order {
     pub refusal: u32,
     pub b: u32,
@@ -55,7 +55,7 @@ pub struct Order {
 
 // What a quote answers: letters to order and bytes of sheets, both for all strands together; the most starts that the scans of one reading try.
 #[repr(C)]
-#[derive(Clone, Copy)]
+#[derive(Clone, Copy, Debug, Default, PartialEq, Eq)]
 pub struct Quoted {
     pub refusal: u32,
     pub letters: u32,
@@ -65,7 +65,7 @@ pub struct Quoted {
 
 // How many strands were read, and their segments by mark.
 #[repr(C)]
-#[derive(Clone, Copy)]
+#[derive(Clone, Copy, Debug, Default, PartialEq, Eq)]
 pub struct Tally {
     pub strands: u32,
     pub clean: u32,
@@ -75,7 +75,7 @@ pub struct Tally {
 
 // What adding to a tally answers: the four counts afterwards.
 #[repr(C)]
-#[derive(Clone, Copy)]
+#[derive(Clone, Copy, Debug, Default, PartialEq, Eq)]
 pub struct Tallied {
     pub refusal: u32,
     pub strands: u32,

@@ -15,10 +15,8 @@ use places::words::eight_at;
 fn first_difference(w: &[u8], v: &[u8]) -> usize
     ensures { result ≡ common w.now v.now }
 {
-    let mut n = w.len();
-    if v.len() < n {
-        n = v.len();
-    }
+    let n = w.len().min(v.len());
+    // By eights: a chain over single symbols reads slower.
     let mut i = 0;
     while i + 8 <= n {
         if eight_at(w, i) != eight_at(v, i) {
@@ -41,14 +39,12 @@ fn run_start(w: &[u8], i: usize) -> usize
     ensures { (result ≡ run_start w.now (get_or w.now i 0) i) × (result ≤ i) }
 {
     let x = w[i];
-    let mut p = i;
-    while 0 < p {
-        if w[p - 1] != x {
-            return p;
+    for p in (0..i).rev() {
+        if w[p] != x {
+            return p + 1;
         }
-        p -= 1;
     }
-    p
+    0
 }
 
 // As many symbols: none or one of them changed.
@@ -66,7 +62,7 @@ fn judge_changed(written: &[u8], piece: &[u8], i: usize) -> Verdict
     Verdict::Lost(9)
 }
 
-// One symbol less, or one more, in the piece: the first place of its run is named.
+// One symbol less, or one more, in the piece: the first place of its run is named. `less` says which of the two, so that the test stands once.
 fn judge_run(long: &[u8], short: &[u8], i: usize, less: bool) -> Verdict
     requires { (length long.now < reach) × (length short.now + 1 ≡ length long.now) × (i ≤ length short.now) × (i ≡ common long.now short.now) }
     ensures { result ≡ judged_as (judged (cond less long.now short.now) (cond less short.now long.now)) }

@@ -1,16 +1,15 @@
 -- What the calls answer, test after test.
---   call_refused                                writing: an order that is refused
---   call_put                                    an order that is taken: its fields are put
 --   equal-bits                                  the fields of equal lengths as one number
 --   firsts, listing-bits                        the first fields of a listing as one number, and the lengths
 --   drop-replicate                              equal entries behind the first
 --   read_short, read_unknown                    reading: too few bytes, no known edition
---   read_spare1, read_order1                    a label of edition 1: spare bits, its order
+--   read_order1                                 the order of a label of edition 1
 --   listing_room                                the bytes that a label needs that lists its lengths
---   read_spare, read_equal, read_listed         such a label: bits behind its lengths, equal lengths, its order
---   answer_test, answer_order                   converting: the tests of a label, and its order
+--   read_equal, read_listed                     such a label: equal lengths, its order
+--   answer_refused, answer_taken, answer_order   converting: a label that is refused, one that is taken, and its order
 --   convert_refused                             a label that is refused
 --   convert_old, convert_large, convert_third   one of an old edition, one that is too large for these, and any other of edition 3
+use Rattle.std.specs.Prelude.{Result, Ok, Err}
 use mathlib.Core.Path.{◌≡◌, refl, sym, ap, ◌∙◌}
 use mathlib.Core.Bool.{Bool, true, false, cond, ◌&&◌, ◌||◌}
 use mathlib.Core.List.{List, [], ◌++◌, append-nil}
@@ -23,32 +22,17 @@ use lib.ListN.{length, get_or, drop, replicate, length-replicate}
 use lib.Pow.{shl_lt, shl_exact, pow_mono}
 use Rattle.code.specs.declared.Refusal.{Refusal}
 use Rattle.code.specs.declared.Refusal.TheVariants.{SegmentLength, MessageSize, Cut, ShortBuffer, Label, TooLarge}
-use Rattle.code.specs.declared.Checked.{Checked}
-use Rattle.code.specs.declared.Checked.TheVariants.{Fine, Refused}
-use Rattle.code.specs.declared.Wrote.TheVariants as W
 use Rattle.code.specs.declared.Labelled.{Labelled}
 use Rattle.code.specs.Limits.{least_length, most_segments, old_length, old_bytes}
 use Rattle.code.specs.Layers.{Word, bits}
 use Rattle.code.specs.Refusals.{refuse, outside, unless_refused}
-use Rattle.code.specs.Order.{Order, order, bad_length, bad_cut, order_test}
-use Rattle.code.proofs.laws.Order.{Within, order_then, order_refused}
-use Rattle.code.specs.Label.{answer_to, in_bits, bytes_for, spare, equal, edition1, bytes_bits, length_bits, listing, too_large, old_bits, label_bits, label_bytes, label_write_test, label_call, field, edition_of, length_in, bytes_in1, lists, bytes_in, end_of_lengths, lengths_in, needed, repeated, order_of, bad_end, bad_label, test_in, label_read_test, labelled, label_read, order_in}
+use Rattle.code.specs.Order.{Order, order, bad_length, bad_cut}
+use Rattle.code.proofs.laws.Order.{Within}
+use Rattle.code.specs.Label.{answer_to, in_bits, bytes_for, spare, equal, edition1, bytes_bits, length_bits, listing, too_large, old_bits, field, edition_of, length_in, bytes_in1, lists, bytes_in, end_of_lengths, lengths_in, needed, repeated, order_of, bad_end, bad_label, test_in, label_read_test, labelled, label_read, order_in}
 use Rattle.code.specs.Conversion.{other_bits, converted, convert_test, convert_call}
 use Rattle.code.proofs.laws.LabelFields.{edition1_number, listing_number}
 use Rattle.code.proofs.laws.Label.{bits_equal, Lengths-first, widths, edition_Ordered, Fits-in, order_in_lem}
 use Rattle.label.specs.PutBits.{put_call}
-
--- an order that is refused
-pub call_refused : (o : Order) (out : List ℕ) (u : Refusal) → order_test o false Fine ≡ Refused u → label_call o out ≡ (W.Refused u, out)
-call_refused o out u e =
-    let t : label_write_test o (length out) ≡ Refused u = order_refused o false u _ e in
-    rw t
-
--- an order that is taken: its fields are put
-pub call_put : (o : Order) (out : List ℕ) (w : Word) → order_test o false Fine ≡ Fine → label_bits o ≡ w → label_call o out ≡ put_call w out
-call_put o out w e l =
-    let t : label_write_test o (length out) ≡ refuse (ltb (length out) (length (label_bytes o))) ShortBuffer Fine = order_then o false _ e in
-    rw t (ap (λ (u : Word). put_call u out) l)
 
 -- the fields of equal lengths as one number
 pub equal-bits : (o : Order) → Within old_length old_bytes o false → (k : ℕ) → k ≡ get_or o.lengths 0 0 → equal o.lengths ≡ true → old_bits o ≡ bits 32 (268435456 + k * 2097152 % 4294967296 + o.b * 8192 % 4294967296) ++ in_bits 7 []
@@ -77,7 +61,7 @@ pub record Firsts (e w b n : ℕ) : Type 0 where
   pub bytes : b ≤ 512
   pub count : n ≤ 64
 
-module _ (e : ℕ) (o : Order) (listed : lists e ≡ true) (fine : test_in e o ≡ Fine) (w : ℕ) (is : w ≡ bytes_bits e) where
+module _ (e : ℕ) (o : Order) (listed : lists e ≡ true) (fine : test_in e o ≡ Ok tt) (w : ℕ) (is : w ≡ bytes_bits e) where
   pub firsts : Firsts e w o.b (length o.lengths)
   firsts =
       let h = edition_Ordered e o fine in
@@ -106,10 +90,10 @@ drop-replicate (suc i) zero x = ap (λ (m : ℕ). replicate m x) (let e : 0 ≡ 
 drop-replicate (suc i) (suc n) x = drop-replicate i n x ∙ ap (λ (m : ℕ). replicate m x) (let e : n - i ≡ suc n - suc i = omega arith in e)
 
 module _ (label : List ℕ) where
-  pub read_short : ltb (length label) (needed label) ≡ true → label_read label ≡ labelled (Refused ShortBuffer) (order [] 0)
+  pub read_short : ltb (length label) (needed label) ≡ true → label_read label ≡ Err ShortBuffer
   read_short e = rw e
 
-  read_bad : ltb (length label) (needed label) ≡ false → bad_label label ≡ true → label_read label ≡ labelled (Refused Label) (order [] 0)
+  read_bad : ltb (length label) (needed label) ≡ false → bad_label label ≡ true → label_read label ≡ Err Label
   read_bad e f = rw (e, f)
 
   read_order : (o : Order) → ltb (length label) (needed label) ≡ false → bad_label label ≡ false → order_of label ≡ o → label_read label ≡ answer_to (test_in (edition_of label) o) o
@@ -133,17 +117,17 @@ bad_replicate zero most k = or-false_r (outside least_length most k)
 bad_replicate (suc n) most k = ap (λ (t : Bool). outside least_length most k || t) (bad_replicate n most k) ∙ or_self (outside least_length most k)
 
 -- the answer to an order that is refused does not tell its lengths
-refused_alike : (x y : Bool) (o p : Order) → answer_to (refuse x SegmentLength (refuse y MessageSize (refuse true Cut Fine))) o ≡ answer_to (refuse x SegmentLength (refuse y MessageSize (refuse true Cut Fine))) p
+refused_alike : (x y : Bool) (o p : Order) → answer_to (refuse x SegmentLength (refuse y MessageSize (refuse true Cut (Ok tt)))) o ≡ answer_to (refuse x SegmentLength (refuse y MessageSize (refuse true Cut (Ok tt)))) p
 refused_alike true y o p = refl
 refused_alike false true o p = refl
 refused_alike false false o p = refl
 
 -- the answer to equal lengths in a label of edition 1
-abbrev answer_for : ℕ → ℕ → ℕ → Labelled
+abbrev answer_for : ℕ → ℕ → ℕ → Result Labelled Refusal
 answer_for n k b = answer_to (test_in 1 (order (replicate n k) b)) (order (replicate n k) b)
 
 -- the answer to more than 64 of them
-answer_many : (n k b : ℕ) → 65 ≤ n → answer_for n k b ≡ unless_refused (refuse (outside least_length old_length k) SegmentLength (refuse (outside 1 old_bytes b || false) MessageSize (refuse true Cut Fine))) (labelled Fine (order [] 0)) (λ r. labelled (Refused r) (order [] 0))
+answer_many : (n k b : ℕ) → 65 ≤ n → answer_for n k b ≡ unless_refused (refuse (outside least_length old_length k) SegmentLength (refuse (outside 1 old_bytes b || false) MessageSize (refuse true Cut (Ok tt)))) (Ok (labelled (order [] 0))) Err
 answer_many zero k b h = absurd (omega arith)
 answer_many (suc n) k b h =
     let ks = replicate (suc n) k in
@@ -162,7 +146,7 @@ answer_capped n k b = go (dec_le n 65)
     go (no h) = all 65 (omega arith) ∙ answer_many 65 k b (omega arith) ∙ sym (answer_many n k b (omega arith))
 
 -- a label of no known edition
-pub read_unknown : (label : List ℕ) → ltb (length label) (needed label) ≡ false → lists (edition_of label) ≡ false → (edition_of label ≡ 1 → ⊥) → label_read label ≡ labelled (Refused Label) (order [] 0)
+pub read_unknown : (label : List ℕ) → ltb (length label) (needed label) ≡ false → lists (edition_of label) ≡ false → (edition_of label ≡ 1 → ⊥) → label_read label ≡ Err Label
 read_unknown label long e f = read_bad label long (rw (e, ne_eqb (edition_of label) 1 f))
 
 -- a label of edition 1
@@ -172,9 +156,6 @@ module _ (label : List ℕ) (room : 4 ≤ length label) (e : edition_of label �
 
   long1 : ltb (length label) (needed label) ≡ false
   long1 = rw (unlisted, le-ltb (length label) 4 room)
-
-  pub read_spare1 : (field 19 13 label ≡ 0 → ⊥) → label_read label ≡ labelled (Refused Label) (order [] 0)
-  read_spare1 f = read_bad label long1 (rw (e, ne_eqb (field 19 13 label) 0 f))
 
   pub read_order1 : field 19 13 label ≡ 0 → (k b : ℕ) → k ≡ length_in label → b ≡ bytes_in1 label → (ks : List ℕ) → ks ≡ replicate (min 65 (1 + (4 * b / k - 1))) k → answer_to (test_in 1 (order ks b)) (order ks b) ≡ label_read label
   read_order1 f k b ek eb ks l =
@@ -192,14 +173,11 @@ module _ (label : List ℕ) (room : needed label ≤ length label) (listed : lis
   long : ltb (length label) (needed label) ≡ false
   long = le-ltb (length label) (needed label) room
 
-  pub read_spare : (field (end_of_lengths label) (spare (end_of_lengths label)) label ≡ 0 → ⊥) → label_read label ≡ labelled (Refused Label) (order [] 0)
-  read_spare f = read_bad label long (rw (listed, ne_eqb (field (end_of_lengths label) (spare (end_of_lengths label)) label) 0 f))
-
   module _ (f : field (end_of_lengths label) (spare (end_of_lengths label)) label ≡ 0) (e : ℕ) (is : e ≡ edition_of label) (ks : List ℕ) (l : ks ≡ lengths_in label) where
     clear : bad_end label ≡ false
     clear = rw f
 
-    pub read_equal : (eqb e 2 && equal ks) ≡ true → label_read label ≡ labelled (Refused Label) (order [] 0)
+    pub read_equal : (eqb e 2 && equal ks) ≡ true → label_read label ≡ Err Label
     read_equal g =
         let same : (eqb (edition_of label) 2 && equal (lengths_in label)) ≡ true = (λ i. eqb (sym is i) 2 && equal (sym l i)) ∙ g in
         read_bad label long (rw (listed, clear, same))
@@ -212,26 +190,41 @@ module _ (label : List ℕ) (room : needed label ≤ length label) (listed : lis
 
 -- Labels that are converted
 
-module _ (label : List ℕ) (l : Labelled) (is : l ≡ label_read label) where
-  -- what is told of a label are its tests
-  pub answer_test : l.tested ≡ label_read_test label
-  answer_test = ap (λ (a : Labelled). a.tested) is ∙ go (label_read_test label)
+module _ (label : List ℕ) (l : Result Labelled Refusal) (is : l ≡ label_read label) where
+  -- what turns a label down turns its conversion down
+  pub answer_refused : (r : Refusal) → l ≡ Err r → label_read_test label ≡ Err r
+  answer_refused r e = go (label_read_test label) refl
     where
-      go : (t : Checked) → (answer_to t (order_of label)).tested ≡ t
-      go Fine = refl
-      go (Refused r) = refl
+      go : (t : Result (Unit {0}) Refusal) → label_read_test label ≡ t → label_read_test label ≡ Err r
+      go (Ok _) p =
+          let q : label_read label ≡ Ok (labelled (order_of label)) = rw p in
+          let no : ◌≡◌ {A = ℕ} 0 1 = cc in
+          absurd (omega arith)
+      go (Err s) p =
+          let q : label_read label ≡ Err s = rw p in
+          p ∙ cc
 
-  -- and the order of one that is taken
-  pub answer_order : label_read_test label ≡ Fine → order_in l ≡ order_of label
-  answer_order t =
-      let a : label_read label ≡ labelled Fine (order_of label) = rw t in
-      ap order_in (is ∙ a) ∙ order_in_lem Fine (order_of label)
+  -- a label that is taken is answered with its order
+  pub answer_taken : (a : Labelled) → l ≡ Ok a → (label_read_test label ≡ Ok tt) × (a ≡ labelled (order_of label))
+  answer_taken a e = go (label_read_test label) refl
+    where
+      go : (t : Result (Unit {0}) Refusal) → label_read_test label ≡ t → (label_read_test label ≡ Ok tt) × (a ≡ labelled (order_of label))
+      go (Ok _) p =
+          let q : label_read label ≡ Ok (labelled (order_of label)) = rw p in
+          (p, cc)
+      go (Err s) p =
+          let q : label_read label ≡ Err s = rw p in
+          let no : ◌≡◌ {A = ℕ} 0 1 = cc in
+          absurd (omega arith)
+
+  pub answer_order : (a : Labelled) → l ≡ Ok a → order_in a ≡ order_of label
+  answer_order a e = ap order_in (answer_taken a e).1 ∙ order_in_lem (order_of label)
 
 -- a label that is refused
-pub convert_refused : (label out : List ℕ) (u : Refusal) → label_read_test label ≡ Refused u → convert_call label out ≡ (W.Refused u, out)
+pub convert_refused : (label out : List ℕ) (u : Refusal) → label_read_test label ≡ Err u → convert_call label out ≡ (Err u, out)
 convert_refused label out u e = rw e
 
-module _ (label out : List ℕ) (taken : label_read_test label ≡ Fine) where
+module _ (label out : List ℕ) (taken : label_read_test label ≡ Ok tt) where
   -- a label of an old edition
   pub convert_old : (edition_of label ≡ 3 → ⊥) → convert_call label out ≡ put_call (listing 3 (order_of label)) out
   convert_old e =
@@ -239,7 +232,7 @@ module _ (label out : List ℕ) (taken : label_read_test label ≡ Fine) where
       let o = order_of label in
       let w : other_bits label ≡ listing 3 o = ap (λ (t : Bool). cond t (old_bits o) (listing 3 o)) third_not in
       let n = ltb (length out) (length (converted label)) in
-      let t : convert_test label (length out) ≡ refuse n ShortBuffer Fine = rw taken (λ i. refuse (third_not i && too_large o) TooLarge (refuse n ShortBuffer Fine)) in
+      let t : convert_test label (length out) ≡ refuse n ShortBuffer (Ok tt) = rw taken (λ i. refuse (third_not i && too_large o) TooLarge (refuse n ShortBuffer (Ok tt))) in
       rw t (ap (λ (u : Word). put_call u out) w)
 
   -- a label of edition 3
@@ -247,10 +240,10 @@ module _ (label out : List ℕ) (taken : label_read_test label ≡ Fine) where
     third_is : eqb (edition_of label) 3 ≡ true
     third_is = eq-eqb (edition_of label) 3 e
 
-    pub convert_large : too_large (order_of label) ≡ true → convert_call label out ≡ (W.Refused TooLarge, out)
+    pub convert_large : too_large (order_of label) ≡ true → convert_call label out ≡ (Err TooLarge, out)
     convert_large large =
         let n = ltb (length out) (length (converted label)) in
-        let t : convert_test label (length out) ≡ Refused TooLarge = rw taken (λ i. refuse (third_is i && large i) TooLarge (refuse n ShortBuffer Fine)) in
+        let t : convert_test label (length out) ≡ Err TooLarge = rw taken (λ i. refuse (third_is i && large i) TooLarge (refuse n ShortBuffer (Ok tt))) in
         rw t
 
     pub convert_third : too_large (order_of label) ≡ false → convert_call label out ≡ put_call (old_bits (order_of label)) out
@@ -258,5 +251,5 @@ module _ (label out : List ℕ) (taken : label_read_test label ≡ Fine) where
         let o = order_of label in
         let w : other_bits label ≡ old_bits o = ap (λ (t : Bool). cond t (old_bits o) (listing 3 o)) third_is in
         let n = ltb (length out) (length (converted label)) in
-        let t : convert_test label (length out) ≡ refuse n ShortBuffer Fine = rw taken (λ i. refuse (third_is i && small i) TooLarge (refuse n ShortBuffer Fine)) in
+        let t : convert_test label (length out) ≡ refuse n ShortBuffer (Ok tt) = rw taken (λ i. refuse (third_is i && small i) TooLarge (refuse n ShortBuffer (Ok tt))) in
         rw t (ap (λ (u : Word). put_call u out) w)

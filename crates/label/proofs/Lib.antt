@@ -2,3 +2,4 @@ pub mod SameLengths
 pub mod Putting
 pub mod Fields
 pub mod Calls
+pub mod Numbers

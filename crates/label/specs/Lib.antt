@@ -1,1 +1,2 @@
 pub mod PutBits
+pub mod Editions

@@ -6,27 +6,31 @@ ghost use Rattle.code.specs.Limits.{most_segments};
 ghost use Rattle.code.specs.Label.{in_bits, field};
 ghost use Rattle.label.specs.PutBits.{put_call};
 
-use code::{Refusal, Wrote};
+use code::Refusal;
 
 // The length at a place; 0 past the end.
 pub fn length_at(lengths: &[u16], i: usize) -> u32
     ensures { result ≡ get_or lengths.now i 0 }
 {
-    if i < lengths.len() {
-        return lengths[i] as u32;
-    }
-    0
+    lengths.get(i).map_or(0, |&k| u32::from(k))
 }
 
 // The lowest `count` bits of `first`, and then lengths in `width` bits each, as bytes at the front of `out`: zero bits fill the last.
-pub fn put_bits(first: u32, count: usize, width: usize, lengths: &[u16], out: &mut [u8]) -> Wrote
+pub fn put_bits(
+    first: u32,
+    count: usize,
+    width: usize,
+    lengths: &[u16],
+    out: &mut [u8],
+) -> Result<usize, Refusal>
     requires widths { (count ≤ 32) × (7 ≤ width) × (width ≤ 16) }
     requires lengths { Below (2 ^ width) lengths.now × (length lengths.now ≤ most_segments) }
     ensures { (result, out.new) ≡ put_call (bits count first ++ in_bits width lengths.now) out.old }
 {
+    // Counted by hand, both at once: some turns take a length, the others put a byte.
     let n = (count + width * lengths.len() + 7) / 8;
     if out.len() < n {
-        return Wrote::Refused(Refusal::ShortBuffer);
+        return Err(Refusal::ShortBuffer);
     }
     let mut held = first;
     let mut left = count;
@@ -43,17 +47,14 @@ pub fn put_bits(first: u32, count: usize, width: usize, lengths: &[u16], out: &m
         out[j] = ((held >> left) % 256) as u8;
         j += 1;
     }
-    Wrote::Bytes(n)
+    Ok(n)
 }
 
 // The byte at a place; 0 past the end.
 fn byte_at(bytes: &[u8], i: usize) -> u32
     ensures { result ≡ get_or bytes.now i 0 }
 {
-    if i < bytes.len() {
-        return bytes[i] as u32;
-    }
-    0
+    bytes.get(i).map_or(0, |&x| u32::from(x))
 }
 
 // The number in `width` bits of bytes, behind the first `at` bits.

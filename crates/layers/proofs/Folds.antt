@@ -3,10 +3,10 @@
 --   folded_places   the sum of places, in each half
 use mathlib.Core.Path.{◌≡◌, ◌∙◌}
 use mathlib.Core.List.{[], ◌∷◌}
-use Prim.Native.Nat.{ℕ, ◌+◌, ◌*◌, ◌/◌, ◌%◌, ◌≤◌, ◌<◌}
+use Prim.Native.Nat.{ℕ, ◌+◌, ◌*◌, ◌/◌, ◌%◌, ◌<◌}
 use native.Mathlib.Nat.{mod-lt}
 use native.Mathlib.Omega.{arith}
-use lib.Bits.{bit_and, and_le_r}
+use lib.Bits.{bit_and}
 use Rattle.code.specs.Segment.{total}
 use Rattle.layers.specs.SideBySide.{half, bytes_of, halves, from_right, column_ones, column_places}
 use Rattle.layers.proofs.Masks.{lanes, even_bytes, low_lanes, next_lanes}
@@ -17,22 +17,6 @@ evens w = bit_and w 71777214294589695
 
 abbrev pub odds : ℕ → ℕ
 odds w = bit_and (w / 256) 71777214294589695
-
--- they are small
-pub record Small (x y : ℕ) : Type 0 where
-  pub x_evens : evens x ≤ 71777214294589695
-  pub x_odds : odds x ≤ 71777214294589695
-  pub y_evens : evens y ≤ 71777214294589695
-  pub y_odds : odds y ≤ 71777214294589695
-
-pub small : (x y : ℕ) → Small x y
-small x y =
-    record {
-      x_evens = and_le_r x 71777214294589695;
-      x_odds = and_le_r (x / 256) 71777214294589695;
-      y_evens = and_le_r y 71777214294589695;
-      y_odds = and_le_r (y / 256) 71777214294589695;
-    }
 
 -- lanes under the mask of each half's lower lane, with other lanes one further
 module _ (p q r s p' q' r' s' : ℕ) (p16 : p + q' < 65536) (q16 : q + r' < 65536) (r16 : r + s' < 65536) (p'16 : p' < 65536) (q'16 : q' < 65536) (r'16 : r' < 65536) where

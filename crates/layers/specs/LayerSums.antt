@@ -1,14 +1,27 @@
 -- What the functions on layers answer.
---   both      a number for each layer of some symbols
---   sums_of   the check and the sums of places of some symbols
---   highs     the high numbers of equal pairs
---   lows      their low numbers
+--   shift_of   the bit of a symbol that a layer holds
+--   layer_of   a layer of some symbols
+--   both       a number for each layer of some symbols
+--   sums_of    the check and the sums of places of some symbols
+--   highs      the high numbers of equal pairs
+--   lows       their low numbers
 use Rattle.std.specs.Prelude.{◌≡◌, List, ℕ}
 use Rattle.std.proofs.Common.{ap}
 use Rattle.code.specs.Layers.{Word, layer, sum_of_places}
 use Rattle.code.specs.Segment.{check}
+use Rattle.layers.specs.declared.Layer.{Layer}
+use Rattle.layers.specs.declared.Layer.TheVariants.{Low, High}
 use Rattle.layers.specs.declared.Layers.{Layers}
 use Rattle.layers.specs.declared.Summed.{Summed}
+
+-- the bit of a symbol that a layer holds, the lowest being bit 0
+abbrev pub shift_of : Layer → ℕ
+shift_of Low = 0
+shift_of High = 1
+
+-- that layer of m
+abbrev pub layer_of : Layer → List ℕ → Word
+layer_of l m = layer (shift_of l) m
 
 -- f of each layer of m
 abbrev pub both : (Word → ℕ) → List ℕ → Layers

@@ -5,27 +5,50 @@
 ghost use Rattle.std.specs.Prelude.{◌≡◌, cond, ◌+◌, ◌-◌, ◌*◌, ◌<◌, ◌≤◌, length, take, drop};
 ghost use Rattle.code.specs.Bounds.{longest, widest};
 ghost use Rattle.code.specs.Layers.{bit, digit, sum_of_places, syndrome, width, number};
-ghost use Rattle.layers.specs.LayerSums.{both, sums_of};
+ghost use Rattle.layers.specs.LayerSums.{shift_of, both, sums_of};
 ghost use Rattle.layers.specs.SideBySide.{half, sides, running_of, bytes_of, bit_bytes, halves, column_ones, column_places, Block};
 
 use places::words::four_at;
 
-// A number for each layer.
-#[derive(Clone, Copy)]
+// One of the two layers: the low bits of the symbols, or the high ones.
+#[derive(Clone, Copy, Debug, PartialEq, Eq)]
+pub enum Layer {
+    Low,
+    High,
+}
+
+impl Layer {
+    // The bit of a symbol that the layer holds, as a number.
+    pub fn digit(self, symbol: u8) -> usize
+        ensures { (result ≡ digit (bit (shift_of self) symbol)) × (result < 2) }
+    {
+        usize::from((symbol >> self as u8) & 1)
+    }
+
+    // What a place adds to the layer's sum of places: its number where the symbol there has a one, and else 0.
+    pub fn place_if_one(self, symbol: u8, place: usize) -> usize
+        ensures { result ≡ cond (bit (shift_of self) symbol) place 0 }
+    {
+        if self.digit(symbol) == 1 { place } else { 0 }
+    }
+}
+
+// A number for each layer. What is done to both is written out for each: two lines beside one another are plainer than a closure.
+#[derive(Clone, Copy, Debug, PartialEq, Eq)]
 pub struct Layers {
     pub high: usize,
     pub low: usize,
 }
 
 // The check of some symbols, and the sum of places of each layer.
-#[derive(Clone, Copy)]
+#[derive(Clone, Copy, Debug, PartialEq, Eq)]
 pub struct Summed {
     pub check: u8,
     pub places: Layers,
 }
 
 // The numbers of ones and the sums of places of both layers, the low layer's in the lower half of each word and the high layer's in the upper.
-#[derive(Clone, Copy)]
+#[derive(Clone, Copy, Debug, PartialEq, Eq)]
 struct Running {
     ones: u64,
     places: u64,
@@ -37,25 +60,6 @@ pub fn width_of(k: usize) -> usize
     ensures { result ≡ width k }
 {
     (64 - usize::leading_zeros(2 * k - 1)) as usize
-}
-
-// The bit of a symbol that a layer holds, as a number.
-pub fn digit_of(symbol: u8, shift: u8) -> usize
-    requires { shift < 2 }
-    ensures { (result ≡ digit (bit shift symbol)) × (result < 2) }
-{
-    ((symbol >> shift) & 1) as usize
-}
-
-// What a place adds to the sum of places of a layer: its number where the symbol there has a one, and else 0.
-pub fn place_if_one(symbol: u8, shift: u8, place: usize) -> usize
-    requires { shift < 2 }
-    ensures { result ≡ cond (bit shift symbol) place 0 }
-{
-    if digit_of(symbol, shift) == 1 {
-        return place;
-    }
-    0
 }
 
 // The bits of both layers of the bytes of a word, a byte each: the low layer's in the lower half, the high layer's in the upper half.
@@ -71,7 +75,7 @@ fn row_at(symbols: &[u8], i: usize) -> u64
     requires { i + 4 ≤ length symbols.now }
     ensures { result ≡ sides bit_bytes (take 4 (drop i symbols.now)) }
 {
-    layer_bits(four_at(symbols, i) as u64)
+    layer_bits(u64::from(four_at(symbols, i)))
 }
 
 // What four columns add up to: `ones` has the ones of each, and `behind` those behind each of its rows, which count for the row's four symbols.
@@ -96,6 +100,7 @@ fn block_sums(symbols: &[u8], from: usize) -> Running
     let mut i = symbols.len();
     let mut ones: u64 = 0;
     let mut behind: u64 = 0;
+    // By hand, as in `sums`: with `for` the sums stand apart from their caller, and a strand is written 2 in 100 slower or more.
     while from < i {
         i -= 8;
         behind += ones;
@@ -148,8 +153,8 @@ pub fn with_last(symbols: &[u8], places: Layers) -> Layers
     let k = symbols.len();
     let x = symbols[k - 1];
     Layers {
-        high: places.high + place_if_one(x, 1, k),
-        low: places.low + place_if_one(x, 0, k),
+        high: places.high + Layer::High.place_if_one(x, k),
+        low: places.low + Layer::Low.place_if_one(x, k),
     }
 }
 
@@ -161,8 +166,8 @@ pub fn without_last(symbols: &[u8], places: Layers) -> Layers
     let k = symbols.len();
     let x = symbols[k - 1];
     Layers {
-        high: places.high - place_if_one(x, 1, k),
-        low: places.low - place_if_one(x, 0, k),
+        high: places.high - Layer::High.place_if_one(x, k),
+        low: places.low - Layer::Low.place_if_one(x, k),
     }
 }
 
@@ -190,15 +195,11 @@ pub fn numbers(symbols: &[u8]) -> Layers
     requires { length symbols.now ≤ widest }
     ensures { result ≡ both number symbols.now }
 {
-    let n = symbols.len();
-    let mut i = 0;
     let mut high: usize = 0;
     let mut low: usize = 0;
-    while i < n {
-        let x = symbols[i];
-        high = 2 * high + digit_of(x, 1);
-        low = 2 * low + digit_of(x, 0);
-        i += 1;
+    for &x in symbols {
+        high = 2 * high + Layer::High.digit(x);
+        low = 2 * low + Layer::Low.digit(x);
     }
     Layers { high, low }
 }

@@ -1,4 +1,3 @@
 pub mod Separators
 pub mod RepairedLayers
 pub mod Steps3to7
-pub mod ReceivedParts

@@ -2,7 +2,7 @@
 use mathlib.Core.Path.{◌≡◌, refl, ap, ◌∙◌}
 use mathlib.Core.Bool.{Bool, true, false}
 use mathlib.Core.List.{List, [], ◌∷◌}
-use Prim.Native.Nat.{ℕ, zero, suc, ◌+◌, ◌-◌, ◌≤◌, ◌<◌}
+use Prim.Native.Nat.{ℕ, ◌+◌, ◌-◌, ◌≤◌, ◌<◌}
 use native.Mathlib.Omega.{arith}
 use borrow.Author.Tests.{lt-ltb, le-ltb}
 use lib.Dec.{ltb}
@@ -12,13 +12,12 @@ use Rattle.code.specs.Bounds.{longest, widest}
 use Rattle.code.specs.declared.Link.{Link}
 use Rattle.code.specs.Layers.{width}
 use Rattle.code.proofs.laws.Layers.{width-Least}
-use Rattle.code.specs.Links.{sent}
 use Rattle.code.specs.Segment.{check}
 use Rattle.code.specs.Reading.{is_prefix, Shift, level, early, late, moved, check_agrees, syndrome_agrees, after_separator, message, repaired, link_of, taken, message_at, message_without}
 use Rattle.code.specs.Reading as R
 use Rattle.tail.specs.declared.Tail.{Tail}
 use Rattle.tail.specs.Tails.{syndrome_in, IsTail}
-use Rattle.message.specs.MessageAnswers.{shift_of, took_by, repaired_at}
+use Rattle.message.specs.MessageAnswers.{took_by, repaired_at}
 
 -- the tests with what follows a message, at a place
 check_at : (k d : ℕ) (s m : List ℕ) (c : ℕ) → c ≡ check m → is_prefix (c ∷ []) (drop (d + k) s) ≡ check_agrees k (drop d s) m
@@ -96,12 +95,6 @@ repaired_by j k d t v a s l el et ev ea h =
     rw (el, lent j k d v s ev, part_is a t s (a + t) refl, et, ea, ← drop-drop n d s)
     (repaired_front (link_of j) (width k) (take (moved j k) (drop d s)) (drop n (drop d s)) (simp length-drop (omega arith)))
 
--- the sent length of what is received at a shift
-pub sent-moved : (j : Shift) (k : ℕ) → 0 < k → sent (link_of j) (moved j k) ≡ k
-sent-moved level k h = refl
-sent-moved early k h = omega arith
-sent-moved late k h = omega arith
-
 pub moved_least : (j : Shift) (k : ℕ) → k ≤ moved j (k + 1)
 moved_least level k = omega arith
 moved_least early k = omega arith
@@ -112,24 +105,7 @@ pub width_most : (k : ℕ) → k ≤ longest → width k ≤ widest
 width_most k h = (width-Least k).least 16 (omega arith)
 
 -- behind a hit marker the message lies before the separator that was found
-pub hit_room : (k j p n : ℕ) (s : List ℕ) → j < 3 → n ≡ moved (shift_of j) 2 → moved (shift_of j) (k + 1) + 3 ≤ length (drop (p + 2) s) → p + n + k ≤ length s
-hit_room k zero p n s h e r = omega (arith, length-drop (p + 2) s)
-hit_room k (suc zero) p n s h e r = omega (arith, length-drop (p + 2) s)
-hit_room k (suc (suc j)) p n s h e r = omega (arith, length-drop (p + 2) s)
-
--- the test as the code makes it, by the number of the shift
-module _ (j k d : ℕ) (s : List ℕ) (t : Tail) (b : Bool) where
-  pub took_moved : (at : ℕ) → (j ≡ 0 → ⊥) → at ≡ d + (moved (shift_of j) (k + 1) + 3) → b ≡ is_prefix (syndrome_in t) (drop at s) → b ≡ took_by (shift_of j) k (drop d s) t
-  took_moved at h m e = go j h (e ∙ ap (λ (x : ℕ). is_prefix (syndrome_in t) (drop x s)) m)
-    where
-      go : (i : ℕ) → (i ≡ 0 → ⊥) → b ≡ is_prefix (syndrome_in t) (drop (d + (moved (shift_of i) (k + 1) + 3)) s) → b ≡ took_by (shift_of i) k (drop d s) t
-      go zero p q = absurd (p refl)
-      go (suc zero) p q = rw (drop-drop (k + 1 - 1 + 3) d s) q
-      go (suc (suc i)) p q = rw (drop-drop (k + 1 + 1 + 3) d s) q
-
-  module _ (level_j : j ≡ 0) (c : Bool) (check_is : c ≡ is_prefix (t.check ∷ []) (drop (d + k) s)) where
-    pub took_check : c ≡ true → true ≡ took_by (shift_of j) k (drop d s) t
-    took_check e = rw (level_j, drop-drop k d s, ← check_is, e)
-
-    pub took_level : c ≡ false → b ≡ is_prefix (syndrome_in t) (drop (d + (k + 1 + 3)) s) → b ≡ took_by (shift_of j) k (drop d s) t
-    took_level e f = rw (level_j, drop-drop k d s, ← check_is, e, drop-drop (k + 1 + 3) d s) f
+pub hit_room : (j : Shift) (k p n : ℕ) (s : List ℕ) → n ≡ moved j 2 → moved j (k + 1) + 3 ≤ length (drop (p + 2) s) → p + n + k ≤ length s
+hit_room level k p n s e r = omega (arith, length-drop (p + 2) s)
+hit_room early k p n s e r = omega (arith, length-drop (p + 2) s)
+hit_room late k p n s e r = omega (arith, length-drop (p + 2) s)

@@ -7,8 +7,8 @@
 --   round               one round of shift, or and mask
 --   pack_rounds         a word of four symbols to a byte
 --   spread_rounds       a byte to a word of four symbols
-use mathlib.Core.Path.{◌≡◌, ◌∙◌}
-use mathlib.Core.List.{List}
+use mathlib.Core.Path.{◌≡◌, refl, ◌∙◌}
+use mathlib.Core.List.{List, [], ◌∷◌}
 use Prim.Native.Nat.{ℕ, ◌+◌, ◌*◌, ◌/◌, ◌%◌, ◌<◌, ◌≤◌}
 use native.Mathlib.Omega.{arith}
 use lib.Bits.{bit_and, bit_or, and_mask, and_block, or_block, or_shifted, or_shifted_r, or_zero_l, or_zero_r, and_zero_r}
@@ -53,6 +53,12 @@ up n x = (x * n) % 4294967296
 module _ (w a b c d : ℕ) (is : w ≡ word_of a b c d) where
   pub word_bytes : a < 256 → b < 256 → c < 256 → (w % 256 ≡ a) × (w / 256 % 256 ≡ b) × (w / 65536 % 256 ≡ c) × (w / 16777216 ≡ d)
   word_bytes ha hb hc = (omega arith, omega arith, omega arith, omega arith)
+
+  pub bytes_of_word : a < 256 → b < 256 → c < 256 → d < 256 → w % 256 ∷ w / 256 % 256 ∷ w / 65536 % 256 ∷ w / 16777216 % 256 ∷ [] ≡ a ∷ b ∷ c ∷ d ∷ []
+  bytes_of_word ha hb hc hd =
+      let e : w / 16777216 % 256 ≡ d = omega arith in
+      let r = word_bytes ha hb hc in
+      rw (r.0, r.1, r.2, e) refl
 
 -- the symbols of the word of four symbols from place i on
 pub word_symbols : (l : List ℕ) (i w : ℕ) → Below 4 l → i + 4 ≤ length l → w ≡ places.word_of (take 4 (drop i l)) → (w % 256 ≡ get_or l i 0) × (w / 256 % 256 ≡ get_or l (i + 1) 0) × (w / 65536 % 256 ≡ get_or l (i + 2) 0) × (w / 16777216 ≡ get_or l (i + 3) 0)

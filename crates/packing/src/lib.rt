@@ -29,7 +29,7 @@ fn pack_word(word: u32) -> u8
 fn spread(x: u8) -> u32
     ensures { result ≡ word_of (x / 64 % 4) (x / 16 % 4) (x / 4 % 4) (x % 4) }
 {
-    let byte = x as u32;
+    let byte = u32::from(x);
     let halves = ((byte << 16) | (byte >> 4)) & 0x000F000F;
     ((halves << 8) | (halves >> 2)) & 0x03030303
 }
@@ -39,15 +39,8 @@ pub fn unpack(bytes: &[u8], out: &mut [u8])
     requires { 4 * length bytes.now ≤ length out.old }
     ensures { out.new ≡ symbols bytes.now ++ drop (4 * length bytes.now) out.old }
 {
-    let mut i = 0;
-    while i < bytes.len() {
-        let word = spread(bytes[i]);
-        let j = 4 * i;
-        out[j] = (word & 255) as u8;
-        out[j + 1] = ((word >> 8) & 255) as u8;
-        out[j + 2] = ((word >> 16) & 255) as u8;
-        out[j + 3] = (word >> 24) as u8;
-        i += 1;
+    for i in 0..bytes.len() {
+        out[4 * i..4 * i + 4].copy_from_slice(&spread(bytes[i]).to_le_bytes());
     }
 }
 
@@ -57,10 +50,7 @@ pub fn pack(symbols: &[u8], out: &mut [u8])
     requires room { length symbols.now / 4 ≤ length out.old }
     ensures { out.new ≡ bytes symbols.now ++ drop (length symbols.now / 4) out.old }
 {
-    let n = symbols.len() / 4;
-    let mut i = 0;
-    while i < n {
+    for i in 0..symbols.len() / 4 {
         out[i] = pack_word(four_at(symbols, 4 * i));
-        i += 1;
     }
 }

@@ -1,17 +1,14 @@
 -- What the piece calls use.
---   located_is        what locating a piece that is taken answers
 --   refused_located   why a piece was not located
 --   Placed, placed    the piece that was located
-use mathlib.Core.Path.{◌≡◌, refl}
+use Rattle.std.specs.Prelude.{Result, Ok, Err}
+use mathlib.Core.Path.{◌≡◌, refl, ap}
 use mathlib.Core.List.{List}
 use Prim.Native.Nat.{ℕ, ◌+◌, ◌-◌, ◌≤◌}
 use native.Mathlib.Omega.{arith}
 use lib.ListN.{length, take, drop}
 use Rattle.code.specs.declared.Refusal.{Refusal}
-use Rattle.code.specs.declared.Checked.{Checked}
-use Rattle.code.specs.declared.Checked.TheVariants.{Fine, Refused}
-use Rattle.code.specs.declared.Located.{Located}
-use Rattle.code.specs.declared.Located.TheVariants as L
+use Rattle.std.specs.declared.ops.Range.{Range}
 use Rattle.code.specs.Symbols.{legible}
 use Rattle.code.specs.Order.{Order}
 use Rattle.code.specs.Refusals.{unless_refused}
@@ -19,43 +16,38 @@ use Rattle.code.specs.Strands.{outcomes}
 use Rattle.code.specs.ReadCall.{piece_test, outcomes_of, piece_start, piece_length, piece_of, located_as, locate_call}
 use Rattle.code.proofs.laws.ReadCall.{piece_Taken, piece_inside}
 
--- what locating the piece of segment i answers, s being the letters as numbers
-pub located_is : (o : Order) (cs s : List ℕ) (i : ℕ) (r : Located) → s ≡ legible cs → piece_test o cs i ≡ Fine → r ≡ located_as (outcomes o.lengths s) (i - 1) → r ≡ locate_call o cs i
-located_is o cs s i r same tested e = rw tested (rw same at e)
+at_fine : (t : Result (Unit {0}) Refusal) (at span : Range ℕ) → unless_refused t (Ok at) Err ≡ Ok span → (t ≡ Ok tt) × (span ≡ at)
+at_fine (Ok _) at span e = (refl, cc)
+at_fine (Err r) at span e = let z : ◌≡◌ {A = ℕ} 0 1 = cc in absurd (omega arith)
 
-at_fine : (t : Checked) (start end x y : ℕ) → unless_refused t (L.At start end) L.Refused ≡ L.At x y → (t ≡ Fine) × (x ≡ start) × (y ≡ end)
-at_fine Fine start end x y e = (refl, cc, cc)
-at_fine (Refused r) start end x y e = let z : ◌≡◌ {A = ℕ} 0 1 = cc in absurd (omega arith)
+refused_at : (t : Result (Unit {0}) Refusal) (at : Range ℕ) (r : Refusal) → unless_refused t (Ok at) Err ≡ Err r → t ≡ Err r
+refused_at (Ok _) at r e = let z : ◌≡◌ {A = ℕ} 0 1 = cc in absurd (omega arith)
+refused_at (Err u) at r e = cc
 
-refused_at : (t : Checked) (start end : ℕ) (r : Refusal) → unless_refused t (L.At start end) L.Refused ≡ L.Refused r → t ≡ Refused r
-refused_at Fine start end r e = let z : ◌≡◌ {A = ℕ} 0 1 = cc in absurd (omega arith)
-refused_at (Refused u) start end r e = cc
-
--- the piece that was located from x to y
-pub record Placed (o : Order) (cs : List ℕ) (i x y : ℕ) : Type 0 where
-  pub tested : piece_test o cs i ≡ Fine
-  pub ordered : x ≤ y
-  pub inside : y ≤ length cs
-  pub letters : take (y - x) (drop x cs) ≡ piece_of (outcomes_of o cs) cs i
+-- the piece that was located
+pub record Placed (o : Order) (cs : List ℕ) (i : ℕ) (at : Range ℕ) : Type 0 where
+  pub tested : piece_test o cs i ≡ Ok tt
+  pub ordered : at.start ≤ at.end
+  pub inside : at.end ≤ length cs
+  pub letters : take (at.end - at.start) (drop at.start cs) ≡ piece_of (outcomes_of o cs) cs i
 
 module _ (o : Order) (cs : List ℕ) (i : ℕ) where
-  abbrev start : ℕ
-  start = piece_start (outcomes_of o cs) (i - 1)
+  abbrev there : Range ℕ
+  there = record { start = piece_start (outcomes_of o cs) (i - 1); end = piece_start (outcomes_of o cs) (i - 1) + piece_length (outcomes_of o cs) (i - 1) }
 
-  abbrev span : ℕ
-  span = piece_length (outcomes_of o cs) (i - 1)
+  pub refused_located : (r : Refusal) → locate_call o cs i ≡ Err r → piece_test o cs i ≡ Err r
+  refused_located r e = refused_at (piece_test o cs i) there r e
 
-  pub refused_located : (r : Refusal) → locate_call o cs i ≡ L.Refused r → piece_test o cs i ≡ Refused r
-  refused_located r e = refused_at (piece_test o cs i) start (start + span) r e
-
-  pub placed : (x y : ℕ) → locate_call o cs i ≡ L.At x y → Placed o cs i x y
-  placed x y e =
-      let p = at_fine (piece_test o cs i) start (start + span) x y e in
+  pub placed : (at : Range ℕ) → locate_call o cs i ≡ Ok at → Placed o cs i at
+  placed at e =
+      let p = at_fine (piece_test o cs i) there at e in
       let q = piece_Taken o cs i p.0 in
-      let m : y - x ≡ span = omega (arith, p.1, p.2) in
+      let x : at.start ≡ there.start = ap (λ (r : Range ℕ). r.start) p.1 in
+      let y : at.end ≡ there.end = ap (λ (r : Range ℕ). r.end) p.1 in
+      let m : at.end - at.start ≡ piece_length (outcomes_of o cs) (i - 1) = omega (arith, x, y) in
       record {
         tested = p.0;
-        ordered = omega (arith, p.1, p.2);
-        inside = omega (arith, p.1, p.2, piece_inside o cs q.0 q.1.0 q.1.1 (i - 1));
-        letters = rw (m, p.1);
+        ordered = omega (arith, x, y);
+        inside = omega (arith, y, piece_inside o cs q.0 q.1.0 q.1.1 (i - 1));
+        letters = rw (m, x);
       }

@@ -3,96 +3,61 @@
 #![tactic(auto)]
 
 ghost use Rattle.std.specs.Prelude.{◌≡◌, ◌*◌, ◌<◌, ◌≤◌, length};
-ghost use Rattle.code.specs.Symbols.{has_unknown};
+ghost use Rattle.code.specs.Bounds.{reach};
 ghost use Rattle.code.specs.Limits.{most_letters};
-ghost use Rattle.code.specs.Order.{order, Taken};
-ghost use Rattle.code.specs.Strands.{outcomes};
-ghost use Rattle.code.specs.ReadCall.{located_as, piece_call, locate_call};
-ghost use Rattle.reading.specs.Walks.{Room};
+ghost use Rattle.code.specs.Order.{order};
+ghost use Rattle.code.specs.ReadCall.{piece_call, locate_call};
 
-use code::{Checked, Decoded, Located, Refusal};
-use reading::{read_order, start_of};
-use refusal::received_test;
+use code::Refusal;
+use reading::segments::Segments;
+use refusal::order::Order;
+use std::ops::Range;
+use symbols::letters::Letters;
 use symbols::{SHORT_BYTES, SHORT_LETTERS};
 
-// Where the i-th piece stands, from 0, in letters as numbers, read as the segments of an order.
-fn span_of(
-    lengths: &[u16],
-    b: u32,
+// Makes the tests 4, 6 and 9 and locates a piece in a strand of at most L letters, with at most S symbols of messages.
+fn locate_within<const L: usize, const S: usize>(
+    order: &Order,
     letters: &[u8],
-    unknown: bool,
-    symbols: &mut [u8],
-    i: usize,
-) -> Located
-    requires received { (length letters.now ≤ most_letters) × (unknown ≡ has_unknown letters.now) × (4 * b ≤ length symbols.old) }
-    requires taken { Taken (order lengths.now b) × (i < length lengths.now) }
-    ensures { result ≡ located_as (outcomes lengths.now letters.now) i }
-{
-    let mut verdicts = [0u32; 64];
-    let mut ends = [0u16; 64];
-    let l = lengths.len();
-    read_order(
-        lengths,
-        b,
-        letters,
-        unknown,
-        symbols,
-        &mut verdicts[..l],
-        &mut ends[..l],
-    );
-    Located::At(start_of(&ends, i), ends[i] as usize)
-}
-
-// Answers as `locate` does, with lent arrays for the letters as numbers and for the symbols of the messages.
-fn locate_lent(
-    lengths: &[u16],
-    b: u32,
-    letters: &[u8],
-    legible: &mut [u8],
-    symbols: &mut [u8],
     segment: u32,
-) -> Located
-    requires { Room b letters.now legible.old symbols.old }
-    ensures { let o = order lengths.now b in result ≡ locate_call o letters.now segment }
+) -> Result<Range<usize>, Refusal>
+    requires letters { (length letters.now ≤ most_letters → length letters.now ≤ L) × (L < reach) }
+    requires symbols { (4 * order.now.b ≤ S) × (S < reach) }
+    ensures { result ≡ locate_call order.now letters.now segment }
 {
-    let received = received_test(lengths, b, letters.len());
-    if let Checked::Refused(r) = received {
-        return Located::Refused(r);
-    }
-    let decoded = symbols::decode(letters, legible);
-    match decoded {
-        Decoded::Whole(unknown) => {
-            let number = segment as usize;
-            if refusal::outside(1, lengths.len(), number) {
-                return Located::Refused(Refusal::NoSuchSegment);
-            }
-            let n = letters.len();
-            span_of(lengths, b, &legible[..n], unknown, symbols, number - 1)
-        }
-        Decoded::Foreign(i) => Located::Refused(Refusal::ForeignLetter(i)),
-    }
+    order.received(letters.len())?;
+    let mut numbers = [0u8; L];
+    let letters = Letters::read(letters, &mut numbers)?;
+    let i = order.index_of(segment)?;
+    let mut verdicts = [0; 64];
+    let mut ends = [0; 64];
+    let segments = Segments::read(order, &letters, &mut [0u8; S], &mut verdicts, &mut ends);
+    Ok(segments.span(i))
 }
 
 // Answers where the piece of a segment starts and where it ends, the segments being counted from 1; for callers that take places
 // and not a part.
 // Turned down, in this order: 1 to 4 and 6 as for a reading; 9 there is no such segment.
-pub fn locate(lengths: &[u16], b: u32, letters: &[u8], segment: u32) -> Located
+pub fn locate(
+    lengths: &[u16],
+    b: u32,
+    letters: &[u8],
+    segment: u32,
+) -> Result<Range<usize>, Refusal>
     ensures { let o = order lengths.now b in result ≡ locate_call o letters.now segment }
 {
+    let order = Order::new(lengths, b)?;
     if letters.len() <= SHORT_LETTERS && b <= SHORT_BYTES {
-        let mut legible = [0u8; 1280];
-        let mut symbols = [0u8; 512];
-        return locate_lent(lengths, b, letters, &mut legible, &mut symbols, segment);
+        locate_within::<1280, 512>(&order, letters, segment)
+    } else {
+        locate_within::<4096, 2048>(&order, letters, segment)
     }
-    let mut legible = [0u8; 4096];
-    let mut symbols = [0u8; 2048];
-    locate_lent(lengths, b, letters, &mut legible, &mut symbols, segment)
 }
 
 // Hands back the piece of a segment, from 1: its stretch of the caller's own `letters`, received for an order; `number` and
 // `place` become 0.
 // Turned down, in this order: 1 to 4 and 6 as for a reading; 9 there is no such segment. Then the part is empty, and `number` and
-// `place` become those of the refusal.
+// `place` become those of the refusal. They are lent beside the part, as its promise has them.
 pub fn piece<'a>(
     lengths: &[u16],
     b: u32,
@@ -103,16 +68,15 @@ pub fn piece<'a>(
 ) -> &'a [u8]
     ensures { let o = order lengths.now b in (result.now, (number.new, place.new)) ≡ piece_call o letters.now segment }
 {
-    let located = locate(lengths, b, letters, segment);
-    match located {
-        Located::At(from, to) => {
+    match locate(lengths, b, letters, segment) {
+        Ok(span) => {
             *number = 0;
             *place = 0;
-            &letters[from..to]
+            &letters[span.start..span.end]
         }
-        Located::Refused(r) => {
-            *number = refusal::number_of(r);
-            *place = refusal::place_of(r);
+        Err(r) => {
+            *number = u8::from(r);
+            *place = r.place();
             &letters[0..0]
         }
     }

@@ -1,6 +1,6 @@
 -- Four and eight bytes from a place on.
 use mathlib.Core.Path.{◌≡◌}
-use Prim.Native.Nat.{ℕ, suc, ◌+◌, ◌*◌, ◌≤◌, ◌<◌}
+use Prim.Native.Nat.{ℕ, suc, ◌+◌, ◌*◌, ◌≤◌}
 use mathlib.Core.List.{List}
 use native.Mathlib.Omega.{arith}
 use lib.ListN.{length, get_or, take, drop}
@@ -13,16 +13,6 @@ use Rattle.places.proofs.laws.Words.{word_next}
 -- what is known of each entry of a slice of bytes
 pub bytes_Below : (l : List ℕ) → ((i : ℕ) → Fits w8 (get_or l i 0)) → Below 256 l
 bytes_Below l f i = (f i).fits
-
--- each of the four is a byte
-pub record Four (l : List ℕ) (i : ℕ) : Type 0 where
-  pub byte0 : get_or l i 0 < 256
-  pub byte1 : get_or l (i + 1) 0 < 256
-  pub byte2 : get_or l (i + 2) 0 < 256
-  pub byte3 : get_or l (i + 3) 0 < 256
-
-pub four : (l : List ℕ) (i : ℕ) → ((j : ℕ) → Fits w8 (get_or l j 0)) → Four l i
-four l i f = record { byte0 = (f i).fits; byte1 = (f (i + 1)).fits; byte2 = (f (i + 2)).fits; byte3 = (f (i + 3)).fits }
 
 -- the word of the four and n more
 word_more : (l : List ℕ) (n i : ℕ) → i + 4 ≤ length l → get_or l i 0 + 256 * get_or l (i + 1) 0 + 65536 * get_or l (i + 2) 0 + 16777216 * get_or l (i + 3) 0 + 4294967296 * word_of (take n (drop (i + 4) l)) ≡ word_of (take (suc (suc (suc (suc n)))) (drop i l))

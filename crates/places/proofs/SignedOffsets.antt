@@ -4,11 +4,10 @@ use mathlib.Core.Bool.{Bool, true, false, cond}
 use Prim.Native.Nat.{ℕ, zero, suc, ◌+◌, ◌-◌, ◌/◌, ◌%◌, ◌≤◌, ◌<◌}
 use native.Mathlib.Omega.{arith}
 use borrow.Author.Tests.{eq-eqb, ne_eqb, le-ltb, eqb-false}
-use lib.Dec.{T, eqb}
+use lib.Dec.{eqb}
 use lib.IntN.{ℤ, pos, negsuc, ◌+ℤ◌, ◌-ℤ◌, nat_abs}
-use lib.Signed.{non_neg}
 use mir.Syntax.{w64}
-use mir.Val.{Fits, SFits, to_z, of_z}
+use mir.Val.{SFits, to_z, of_z}
 use mir.Facts.{to_z-of_z, to_z_pos}
 use Rattle.code.specs.Bounds.{reach}
 use Rattle.places.specs.Offsets.{offset_of, tried_at}
@@ -67,9 +66,6 @@ module _ (n i : ℕ) (given : (i < reach) × ((i + 1) / 2 ≤ n) × (n < reach))
 
     place : to_z w64 (of_z w64 sum) ≡ pos (tried_at n i)
     place = to_z-of_z {w = w64} sum_fits ∙ sum_is
-
-    pub place_unsigned : T (non_neg (to_z w64 (of_z w64 sum))) × Fits w64 (nat_abs (to_z w64 (of_z w64 sum)))
-    place_unsigned = rw place (tt, record { fits = omega (arith, tried_small n i) })
 
     pub place_is : nat_abs (to_z w64 (of_z w64 sum)) ≡ tried_at n i
     place_is = rw place

@@ -1,19 +1,17 @@
 -- Tests at a place, by the letters there.
-use mathlib.Core.Path.{◌≡◌, refl, sym, ap, ◌∙◌}
+use mathlib.Core.Path.{◌≡◌, refl, ap, ◌∙◌}
 use mathlib.Core.Bool.{Bool, true, false, ◌&&◌}
 use mathlib.Core.List.{List, [], ◌∷◌, append-nil}
-use Prim.Native.Nat.{ℕ, zero, suc, ◌+◌, ◌-◌, ◌≤◌, ◌<◌}
-use native.Mathlib.Numerals.{add-one}
+use Prim.Native.Nat.{ℕ, zero, suc, min, ◌+◌, ◌-◌, ◌≤◌, ◌<◌}
+use native.Mathlib.Numerals.{add-one, unary_clauses}
 use native.Mathlib.Omega.{arith}
 use borrow.Author.Tests.{eq-eqb, ne_eqb}
 use lib.Dec.{eqb}
+use lib.Pointwise.{pointwise}
 use lib.ListN.{length, get_or, take, drop, length-drop, drop_of_length-le}
-use lib.Seq.{drop-cons, drop-drop, take-append-le}
+use lib.Seq.{drop-cons, take_all}
 use Rattle.code.specs.Reading.{is_prefix, two_equal, three_equal}
-use Rattle.code.proofs.laws.Reading.{and-true, and-false, prefix_self, prefix_is, prefix_split}
-use Rattle.code.specs.Symbols.{Below}
-use Rattle.places.specs.Words.{word_of}
-use Rattle.places.proofs.laws.Words.{word_place}
+use Rattle.code.proofs.laws.Reading.{and-true, and-false, prefix_self, prefix_is}
 
 -- a list that is too short passes no test
 
@@ -36,23 +34,18 @@ prefix_short [] l h = absurd (omega arith)
 prefix_short (x ∷ b) [] h = refl
 prefix_short (x ∷ b) (y ∷ l) h = rw (prefix_short b l (omega arith)) (and-false (eqb x y))
 
--- a block goes on behind a front that both lists have, and stands nowhere else
-
-front_turn : (n : ℕ) (b l : List ℕ) → take n b ≡ take n l → is_prefix b l ≡ is_prefix (drop n b) (drop n l)
+-- std's test of a front
+prefix_pointwise : (b l : List ℕ) → pointwise eqb b (take (length b) l) ≡ is_prefix b l
 unfolding is_prefix
-front_turn zero b l e = refl
-front_turn (suc n) [] l e = refl
-front_turn (suc n) (x ∷ b) [] e = cc
-front_turn (suc n) (x ∷ b) (y ∷ l) e =
-    let p : x ≡ y = cc in
-    rw (eq-eqb x y p) (front_turn n b l cc)
+prefix_pointwise [] l = refl
+prefix_pointwise (x ∷ b) [] = refl
+prefix_pointwise (x ∷ b) (y ∷ l) = ap (λ (t : Bool). eqb x y && t) (prefix_pointwise b l)
 
-front_stop : (n : ℕ) (b l : List ℕ) → n ≤ length b → (take n b ≡ take n l → ⊥) → is_prefix b l ≡ false
-front_stop n b l h q = go (is_prefix b l) refl
-  where
-    go : (t : Bool) → is_prefix b l ≡ t → t ≡ false
-    go false e = refl
-    go true e = absurd (q (sym (ap (take n) (prefix_split b l e) ∙ take-append-le n b (drop (length b) l) h)))
+-- what is left from a place on, or from the end where the place is past it
+rest_from : (n : ℕ) (l : List ℕ) → drop (min n (length l)) l ≡ drop n l
+rest_from zero l = simp unary_clauses refl
+rest_from (suc n) [] = simp unary_clauses refl
+rest_from (suc n) (x ∷ l) = simp unary_clauses (rest_from n l)
 
 module _ (s : List ℕ) (at : ℕ) where
   pub one_inside : (x : ℕ) → at < length s → is_prefix (x ∷ []) (drop at s) ≡ eqb x (get_or s at 0)
@@ -85,6 +78,13 @@ module _ (s : List ℕ) (at : ℕ) where
   pub three_past : length s ≤ at + 2 → three_equal (drop at s) ≡ false
   three_past h = three_short (drop at s) (simp length-drop (omega arith))
 
+  -- what std's starts_with says of what is left of s from the place on
+  pub block_stands : (b : List ℕ) (i : ℕ) (r : Bool) → i ≡ min at (length s) → r ≡ pointwise eqb b (take (length b) (take (length s - i) (drop i s))) → r ≡ is_prefix b (drop at s)
+  block_stands b i r e h = h ∙ rw (take_all (length s - i) (drop i s) (simp length-drop (omega arith)), rest) (prefix_pointwise b (drop at s))
+    where
+      rest : drop i s ≡ drop at s
+      rest = rw e (rest_from at s)
+
   -- the block b, compared letter by letter
   module _ (b : List ℕ) where
     pub block_past : length s - at < length b → is_prefix b (drop at s) ≡ false
@@ -103,17 +103,6 @@ module _ (s : List ℕ) (at : ℕ) where
       pub block_stop : (get_or b j 0 ≡ get_or s (at + j) 0 → ⊥) → is_prefix (drop j b) (drop (at + j) s) ≡ false
       unfolding is_prefix
       block_stop q = rw (drop-cons b j 0 inside, drop-cons s (at + j) 0 inside', ne_eqb (get_or b j 0) (get_or s (at + j) 0) q)
-
-    -- eight letters at once
-    module _ (j : ℕ) (small : Below 256 b) (small' : Below 256 s) (inside : j + 8 ≤ length b) (inside' : at + j + 8 ≤ length s) where
-      pub words_turn : word_of (take 8 (drop j b)) ≡ word_of (take 8 (drop (at + j) s)) → is_prefix (drop j b) (drop (at + j) s) ≡ is_prefix (drop (j + 8) b) (drop (at + (j + 8)) s)
-      words_turn q =
-          let e : at + (j + 8) ≡ at + j + 8 = omega arith in
-          rw (e, ← drop-drop 8 j b, ← drop-drop 8 (at + j) s)
-          (front_turn 8 (drop j b) (drop (at + j) s) (word_place 8 b s j (at + j) inside inside' small small' q))
-
-      pub words_stop : (word_of (take 8 (drop j b)) ≡ word_of (take 8 (drop (at + j) s)) → ⊥) → is_prefix (drop j b) (drop (at + j) s) ≡ false
-      words_stop q = front_stop 8 (drop j b) (drop (at + j) s) (simp length-drop (omega arith)) (λ e. q (ap word_of e))
 
     pub block_end : (j : ℕ) (l : List ℕ) → length b ≤ j → is_prefix (drop j b) l ≡ true
     unfolding is_prefix

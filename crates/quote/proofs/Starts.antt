@@ -11,20 +11,6 @@ use lib.ListN.{length, get_or}
 use Rattle.code.specs.Limits.{most_segments}
 use Rattle.code.specs.Starts.{not_above}
 
-pub above_few : (ks : List ℕ) → length ks < 2 → 0 ≡ not_above ks
-above_few [] h = refl
-above_few (k ∷ []) h = refl
-above_few (k ∷ i ∷ ks) h = absurd (omega arith)
-
-pub above_more : (ks : List ℕ) → 2 ≤ length ks → bool_byte (eqb (get_or ks 0 0) 2) ≡ not_above ks
-above_more [] h = absurd (omega arith)
-above_more (k ∷ []) h = absurd (omega arith)
-above_more (k ∷ i ∷ ks) h = bit (eqb k 2)
-  where
-    bit : (b : Bool) → bool_byte b ≡ cond b 1 0
-    bit true = refl
-    bit false = refl
-
 -- none on one segment, and at most one
 pub above_most : (ks : List ℕ) → not_above ks ≤ length ks - 1
 above_most [] = omega arith

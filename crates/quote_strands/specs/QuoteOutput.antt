@@ -5,14 +5,12 @@
 --   quote_text     the same for an order and a line
 --   quote_output   what is printed for an input
 --   output_room    room for all that is printed
-use Rattle.std.specs.Prelude.{List, [], ◌∷◌, ◌++◌, ℕ}
+use Rattle.std.specs.Prelude.{Option, Some, None, Result, Ok, Err, List, [], ◌∷◌, ◌++◌, ℕ}
+use Rattle.code.specs.declared.Refusal.{Refusal}
+use Rattle.code.specs.declared.Quote.{Quote}
 use Rattle.code.specs.declared.Refusal.TheVariants.{MessageSize}
-use Rattle.code.specs.declared.Quoted.{Quoted}
-use Rattle.code.specs.declared.Quoted.TheVariants.{Numbers, Refused}
 use Rattle.code.specs.Order.{Order}
 use Rattle.code.specs.Quote.{quote_call}
-use Rattle.text.specs.declared.decimal.Number.{Number}
-use Rattle.text.specs.declared.decimal.Number.TheVariants.{Of, Bad}
 use Rattle.text.specs.Lines.{feed}
 use Rattle.text.specs.Decimal.{named, number_in}
 use Rattle.console.specs.LabelLine.{printed}
@@ -23,14 +21,14 @@ unfoldable pub quote_lines : ℕ → ℕ → ℕ → List ℕ
 quote_lines letters bytes starts = named "letters " letters ++ feed ∷ named "sheet bytes " bytes ++ feed ∷ named "starts " starts ++ feed ∷ []
 
 -- what a quote answers: its lines, or the refusal
-unfoldable pub shown : Quoted → List ℕ
-shown (Numbers q) = quote_lines q.letters q.bytes q.starts
-shown (Refused r) = refused_line r
+unfoldable pub shown : Result Quote Refusal → List ℕ
+shown (Ok q) = quote_lines q.letters q.bytes q.starts
+shown (Err r) = refused_line r
 
 -- the same for an order and the number of strands that a line holds, or refused 2
-unfoldable pub strands_in : Order → Number → List ℕ
-strands_in o (Of n) = shown (quote_call o n)
-strands_in o Bad = refused_line MessageSize
+unfoldable pub strands_in : Order → Option ℕ → List ℕ
+strands_in o (Some n) = shown (quote_call o n)
+strands_in o None = refused_line MessageSize
 
 -- the same for an order and a line
 unfoldable pub quote_text : Order → List ℕ → List ℕ

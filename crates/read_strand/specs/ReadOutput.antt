@@ -4,9 +4,9 @@
 --   read_text                  the same for an order and letters
 --   read_output                what is printed for an input
 --   counts_room, output_room   room for the counts, and for all that is printed
-use Rattle.std.specs.Prelude.{List, [], ◌∷◌, ◌++◌, ℕ, ◌+◌, ◌*◌, take, replicate}
-use Rattle.code.specs.declared.Counted.{Counted}
-use Rattle.code.specs.declared.Counted.TheVariants as N
+use Rattle.std.specs.Prelude.{Result, Ok, Err, List, [], ◌∷◌, ◌++◌, ℕ, ◌+◌, ◌*◌, take, replicate}
+use Rattle.code.specs.declared.Refusal.{Refusal}
+use Rattle.code.specs.declared.Counts.{Counts}
 use Rattle.code.specs.Limits.{most_bytes}
 use Rattle.code.specs.Order.{Order}
 use Rattle.code.specs.ReadCall.{read_call}
@@ -21,9 +21,9 @@ unfoldable pub counts_line : ℕ → ℕ → ℕ → List ℕ
 counts_line clean corrected lost = named "clean " clean ++ named " corrected " corrected ++ named " lost " lost ++ feed ∷ []
 
 -- what a reading answers, for B: the first B bytes of the message buffer in a line of their own and the counts, or the refusal
-unfoldable pub shown : ℕ → Counted × (List ℕ × List ℕ) → List ℕ
-shown b (N.Counts clean corrected lost, (message, sheet)) = hex_digits (take b message) ++ feed ∷ counts_line clean corrected lost
-shown b (N.Refused r, buffers) = refused_line r
+unfoldable pub shown : ℕ → Result Counts Refusal × (List ℕ × List ℕ) → List ℕ
+shown b (Ok n, (message, sheet)) = hex_digits (take b message) ++ feed ∷ counts_line n.clean n.corrected n.lost
+shown b (Err r, buffers) = refused_line r
 
 -- the same for an order and letters, with buffers of zeros
 unfoldable pub read_text : Order → List ℕ → List ℕ

@@ -2,84 +2,64 @@
 
 #![tactic(auto)]
 
-ghost use Rattle.std.specs.Prelude.{◌≡◌, false, ◌*◌, ◌≤◌, length};
-ghost use Rattle.code.specs.Symbols.{has_unknown};
+ghost use Rattle.std.specs.Prelude.{Ok, ◌≡◌, ◌<◌, false, ◌*◌, ◌≤◌, length};
+ghost use Rattle.code.specs.Bounds.{reach};
 ghost use Rattle.code.specs.Limits.{most_letters};
-ghost use Rattle.code.specs.Order.{order, Taken};
+ghost use Rattle.code.specs.Order.{order};
 ghost use Rattle.code.specs.Strands.{outcomes};
 ghost use Rattle.code.specs.ReadCall.{short_buffers, read_as, read_call};
 ghost use Rattle.code.specs.ReadDemand.{Demand3Call};
-ghost use Rattle.reading.specs.Walks.{Room};
 
-use code::{Checked, Counted, Decoded, Refusal};
-use reading::read_layout;
-use refusal::{received_test, short_buffers};
+use code::{Counts, Refusal};
+use reading::segments::Segments;
+use refusal::order::Order;
+use symbols::letters::Letters;
 use symbols::{SHORT_BYTES, SHORT_LETTERS};
 
-// Reads the segments of an order from letters as numbers: bytes at the front of `message`, marks at the front of `sheet`, and their counts.
-fn read_letters(
-    lengths: &[u16],
-    b: u32,
-    letters: &[u8],
-    unknown: bool,
-    symbols: &mut [u8],
+// Reads the segments of an order: bytes at the front of `message`, marks at the front of `sheet`, and their counts. The messages have at most S symbols.
+fn read_segments<const S: usize>(
+    order: &Order,
+    letters: &Letters,
     message: &mut [u8],
     sheet: &mut [u8],
-) -> Counted
-    requires received { (length letters.now ≤ most_letters) × (unknown ≡ has_unknown letters.now) × (4 * b ≤ length symbols.old) }
-    requires taken { Taken (order lengths.now b) }
-    requires buffers { short_buffers (order lengths.now b) (length message.old) (length sheet.old) ≡ false }
-    ensures { let os = outcomes lengths.now letters.now in
-        (result, (message.new, sheet.new)) ≡ read_as os message.old sheet.old }
+) -> Counts
+    requires symbols { (4 * order.now.b ≤ S) × (S < reach) }
+    requires buffers { short_buffers order.now (length message.old) (length sheet.old) ≡ false }
+    ensures { let os = outcomes order.now.lengths letters.now in
+        (Ok result, (message.new, sheet.new)) ≡ read_as os message.old sheet.old }
 {
-    let mut verdicts = [0u32; 64];
-    let mut ends = [0u16; 64];
-    let mut marks = [0u8; 64];
-    let n = 4 * b as usize;
-    let l = lengths.len();
-    read_layout(
-        lengths,
-        letters,
-        unknown,
-        &mut symbols[..n],
-        &mut verdicts[..l],
-        &mut ends[..l],
-    );
+    let n = order.symbols();
+    let mut symbols = [0u8; S];
+    let mut verdicts = [0; 64];
+    let mut ends = [0; 64];
+    let segments = Segments::read(order, letters, &mut symbols, &mut verdicts, &mut ends);
     packing::pack(&symbols[..n], message);
-    sheet::marks_of(&verdicts[..l], &mut marks[..l]);
+    let verdicts = segments.verdicts();
+    let l = verdicts.len();
+    let mut marks = [0u8; 64];
+    sheet::marks_of(verdicts, &mut marks[..l]);
     sheet::pack_sheet(&marks[..l], sheet);
     sheet::counts_of(&marks[..l])
 }
 
-// Reads a strand as `read` does, with lent arrays for the letters as numbers and for the symbols of the messages.
-fn read_lent(
-    lengths: &[u16],
-    b: u32,
+// Makes the tests 4 to 6 and reads a strand of at most L letters, with at most S symbols of messages.
+fn read_within<const L: usize, const S: usize>(
+    order: &Order,
     letters: &[u8],
-    legible: &mut [u8],
-    symbols: &mut [u8],
     message: &mut [u8],
     sheet: &mut [u8],
-) -> Counted
-    requires { Room b letters.now legible.old symbols.old }
-    ensures { let o = order lengths.now b in
-        (result, (message.new, sheet.new)) ≡ read_call o letters.now message.old sheet.old }
+) -> Result<Counts, Refusal>
+    requires letters { (length letters.now ≤ most_letters → length letters.now ≤ L) × (L < reach) }
+    requires symbols { (4 * order.now.b ≤ S) × (S < reach) }
+    ensures { (result, (message.new, sheet.new)) ≡ read_call order.now letters.now message.old sheet.old }
 {
-    let received = received_test(lengths, b, letters.len());
-    if let Checked::Refused(r) = received {
-        return Counted::Refused(r);
+    order.received(letters.len())?;
+    if order.is_short_for(message.len(), sheet.len()) {
+        return Err(Refusal::ShortBuffer);
     }
-    if short_buffers(lengths, b, message.len(), sheet.len()) {
-        return Counted::Refused(Refusal::ShortBuffer);
-    }
-    let decoded = symbols::decode(letters, legible);
-    match decoded {
-        Decoded::Whole(unknown) => {
-            let n = letters.len();
-            read_letters(lengths, b, &legible[..n], unknown, symbols, message, sheet)
-        }
-        Decoded::Foreign(i) => Counted::Refused(Refusal::ForeignLetter(i)),
-    }
+    let mut numbers = [0u8; L];
+    let letters = Letters::read(letters, &mut numbers)?;
+    Ok(read_segments::<S>(order, &letters, message, sheet))
 }
 
 // Reads a strand: the received `letters`, written on the layout `lengths` for B = `b`. The B bytes of the message go to the front of
@@ -97,34 +77,16 @@ pub fn read(
     letters: &[u8],
     message: &mut [u8],
     sheet: &mut [u8],
-) -> Counted
+) -> Result<Counts, Refusal>
     ensures exact { let o = order lengths.now b in
         (result, (message.new, sheet.new)) ≡ read_call o letters.now message.old sheet.old }
     ensures one_edit { let o = order lengths.now b in
         Demand3Call o letters.now message.old sheet.old (result, (message.new, sheet.new)) }
 {
+    let order = Order::new(lengths, b)?;
     if letters.len() <= SHORT_LETTERS && b <= SHORT_BYTES {
-        let mut legible = [0u8; 1280];
-        let mut symbols = [0u8; 512];
-        return read_lent(
-            lengths,
-            b,
-            letters,
-            &mut legible,
-            &mut symbols,
-            message,
-            sheet,
-        );
+        read_within::<1280, 512>(&order, letters, message, sheet)
+    } else {
+        read_within::<4096, 2048>(&order, letters, message, sheet)
     }
-    let mut legible = [0u8; 4096];
-    let mut symbols = [0u8; 2048];
-    read_lent(
-        lengths,
-        b,
-        letters,
-        &mut legible,
-        &mut symbols,
-        message,
-        sheet,
-    )
 }

@@ -1,9 +1,8 @@
--- Where a piece stands, by the ends of the pieces at the front of an array.
+-- Where a piece stands, by the ends of the pieces.
 --   ends_count   there is an end for each segment
 --   span_end     where it ends
 --   span_start   where it starts
 --   span_inside  it ends inside the letters
---   ends_array   how long that array is
 use mathlib.Core.Path.{◌≡◌, refl, sym, ap, ◌∙◌}
 use mathlib.Core.List.{List, [], ◌∷◌, ◌++◌}
 use Prim.Native.Nat.{ℕ, zero, suc, ◌+◌, ◌≤◌, ◌<◌}
@@ -47,21 +46,15 @@ module _ (ks letters ends : List ℕ) (e : ends ≡ ends_from 0 (outcomes ks let
   pub ends_count : length ends ≡ length ks
   ends_count = ap length e ∙ length_ends 0 os ∙ length-outcomes ks letters
 
-  -- r stands behind the ends in their array
-  module _ (r : List ℕ) where
-    pub span_end : (i : ℕ) → i < length ks → get_or (ends ++ r) i 0 ≡ piece_start os i + piece_length os i
-    span_end i h =
-        let n = length-outcomes ks letters in
-        get_or-append ends r 0 i (omega (arith, ends_count)) ∙ ap (λ (w : List ℕ). get_or w i 0) e ∙ omega (arith, ends_at 0 os i (omega arith))
+  pub span_end : (i : ℕ) → i < length ks → get_or ends i 0 ≡ piece_start os i + piece_length os i
+  span_end i h =
+      let n = length-outcomes ks letters in
+      ap (λ (w : List ℕ). get_or w i 0) e ∙ omega (arith, ends_at 0 os i (omega arith))
 
-    pub span_start : (i : ℕ) → i < length ks → start_in (ends ++ r) i ≡ piece_start os i
-    unfolding sum
-    span_start zero h = refl
-    span_start (suc i) h = span_end i (omega arith) ∙ sym (start_behind os i)
+  pub span_start : (i : ℕ) → i < length ks → start_in ends i ≡ piece_start os i
+  unfolding sum
+  span_start zero h = refl
+  span_start (suc i) h = span_end i (omega arith) ∙ sym (start_behind os i)
 
-    pub span_inside : (i : ℕ) → i < length ks → get_or (ends ++ r) i 0 ≤ length letters
-    span_inside i h = omega (arith, span_end i h, ends_inside os i, ap length (joined_pieces ks letters (omega arith)))
-
-    -- the array of 64 that they stand in
-    pub ends_array : length ks ≤ 64 → r ≡ drop (length ks) (replicate 64 0) → length (ends ++ r) ≡ 64
-    ends_array h z = length-append ends r ∙ omega (arith, ends_count, ap length z, length-drop {A = ℕ} (length ks) (replicate 64 0))
+  pub span_inside : (i : ℕ) → i < length ks → get_or ends i 0 ≤ length letters
+  span_inside i h = omega (arith, span_end i h, ends_inside os i, ap length (joined_pieces ks letters (omega arith)))

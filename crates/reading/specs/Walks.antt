@@ -1,12 +1,11 @@
 -- The walk over a layout.
 --   ends_from   where the pieces of outcomes end
---   Room        the arrays that a reading is lent
 --   Lent        the buffers that a walk is lent
 --   Walked      what it leaves in them
 --   Found       what is said of the segments, and where they end
+--   Told        the same, as a value
 --   start_in    where a piece starts, by the ends
 use Rattle.std.specs.Prelude.{◌≡◌, List, [], ◌∷◌, map, ℕ, zero, suc, ◌+◌, ◌*◌, ◌≤◌, length, get_or}
-use Rattle.code.specs.Limits.{most_bytes, most_letters}
 use Rattle.code.specs.Layout.{sum}
 use Rattle.code.specs.Strands.{Outcome, outcomes, messages_of, verdicts_of}
 use Rattle.code.specs.Verdicts.{verdict_number}
@@ -15,10 +14,6 @@ use Rattle.code.specs.Verdicts.{verdict_number}
 unfoldable pub ends_from : ℕ → List Outcome → List ℕ
 ends_from p [] = []
 ends_from p (o ∷ os) = (p + length o.piece) ∷ ends_from (p + length o.piece) os
-
--- lent room for letters as numbers and for the symbols of messages, enough for an order and letters within the limits
-abbrev pub Room : ℕ → List ℕ → List ℕ → List ℕ → Type 0
-Room b letters legible symbols = (length letters ≤ most_letters → length letters ≤ length legible) × (b ≤ most_bytes → 4 * b ≤ length symbols)
 
 -- room for the symbols of a layout, and for a verdict and an end of each segment
 abbrev pub Lent : List ℕ → List ℕ → List ℕ → List ℕ → Type 0
@@ -34,6 +29,11 @@ pub record Walked (ks letters symbols verdicts ends : List ℕ) : Type 0 where
 pub record Found (ks letters verdicts ends : List ℕ) : Type 0 where
   pub numbers : verdicts ≡ map verdict_number (verdicts_of (outcomes ks letters))
   pub places : ends ≡ ends_from 0 (outcomes ks letters)
+
+-- what is told of segments: the numbers of their verdicts, and where their pieces end
+pub record Told : Type 0 where
+  pub numbers : List ℕ
+  pub ends : List ℕ
 
 -- where the piece behind the first i starts: where the one before it ends
 abbrev pub start_in : List ℕ → ℕ → ℕ

@@ -2,19 +2,21 @@
 
 #![tactic(auto)]
 
+pub mod segments;
+
 ghost use Rattle.std.specs.Prelude.{◌≡◌, true, false, ◌*◌, ◌≤◌, length};
-ghost use Rattle.code.specs.Symbols.{as_symbols, has_unknown};
+ghost use Rattle.code.specs.Symbols.{has_unknown};
 ghost use Rattle.code.specs.Limits.{most_letters};
-ghost use Rattle.code.specs.Bounds.{longest, Received};
+ghost use Rattle.code.specs.Bounds.{longest};
 ghost use Rattle.code.specs.Layout.{Lengths};
 ghost use Rattle.code.specs.Order.{order, Taken};
 ghost use Rattle.code.specs.Strands.{told};
 ghost use Rattle.code.specs.Verdicts.{verdict_number, verdict_of};
 ghost use Rattle.reading.specs.Walks.{Lent, Walked, Found, start_in};
 
-use scan::{Next, next_place};
+use scan::Next;
 use sheet::number_of;
-use steps::read_segment;
+use steps::{Strand, read_segment};
 use symbols::{SHORT_LETTERS, as_symbols, has_unknown};
 
 // The number of what is said of a segment by its piece: no edit becomes unknown where an N is among its letters. Pieces of a strand without N are
@@ -24,90 +26,67 @@ fn said_of(number: u32, piece: &[u8], unknown: bool) -> u32
     requires unknown { unknown ≡ false → has_unknown piece.now ≡ false }
     ensures { result ≡ verdict_number (told (verdict_of number) piece.now) }
 {
-    if !unknown {
-        return number;
+    if unknown && number == 0 && has_unknown(piece) {
+        1
+    } else {
+        number
     }
-    if number != 0 {
-        return number;
-    }
-    if has_unknown(piece) {
-        return 1;
-    }
-    number
 }
 
-// Reads the segments of a layout from letters and the symbols s that they are read as; `unknown` says whether an N is among them.
+// Reads the segments of a layout from a strand; `unknown` says whether an N is among its letters.
 fn read_segments(
     lengths: &[u16],
-    s: &[u8],
-    letters: &[u8],
+    strand: &Strand,
     unknown: bool,
     symbols: &mut [u8],
     verdicts: &mut [u32],
     ends: &mut [u16],
 )
-    requires received { Received s.now × Lengths longest lengths.now × (s.now ≡ as_symbols letters.now) × (unknown ≡ has_unknown letters.now) }
+    requires lengths { Lengths longest lengths.now }
+    requires unknown { unknown ≡ has_unknown strand.now.letters.now }
     requires lent { Lent lengths.now symbols.old verdicts.old ends.old }
-    ensures { Walked lengths.now letters.now symbols.new verdicts.new ends.new }
+    ensures { Walked lengths.now strand.now.letters.now symbols.new verdicts.new ends.new }
 {
+    // By value: through the reference the walk reads slower.
+    let strand = *strand;
     let mut next = Next::At(0, 0);
     let mut from = 0;
     let mut at = 0;
-    let mut i = 0;
-    let mut rest = lengths;
-    while 0 < rest.len() {
-        let to = at + rest[0] as usize;
-        rest = &rest[1..];
-        let answer = read_segment(s, letters, next, i != 0, rest, &mut symbols[at..to]);
-        let verdict = answer.verdict;
-        let number = number_of(verdict);
+    for (i, &k) in lengths.iter().enumerate() {
+        let to = at + k as usize;
+        let rest = &lengths[i + 1..];
+        let answer = read_segment(&strand, next, i != 0, rest, &mut symbols[at..to]);
         next = answer.next;
-        let end = next_place(next, s.len());
-        verdicts[i] = said_of(number, &letters[from..end], unknown);
+        let end = next.place(strand.symbols.len());
+        let number = number_of(answer.verdict);
+        verdicts[i] = said_of(number, &strand.letters[from..end], unknown);
         ends[i] = end as u16;
         from = end;
         at = to;
-        i += 1;
     }
 }
 
-// Reads the segments of a layout from letters with an N among them: the symbols that they are read as stand at the front of `s`, which is lent.
-fn read_beside(
-    lengths: &[u16],
-    s: &mut [u8],
-    letters: &[u8],
-    symbols: &mut [u8],
-    verdicts: &mut [u32],
-    ends: &mut [u16],
-)
-    requires received { (length letters.now ≤ most_letters) × Lengths longest lengths.now × (true ≡ has_unknown letters.now) }
-    requires lent { (length letters.now ≤ length s.old) × Lent lengths.now symbols.old verdicts.old ends.old }
-    ensures { Walked lengths.now letters.now symbols.new verdicts.new ends.new }
-{
-    as_symbols(letters, s);
-    let n = letters.len();
-    read_segments(lengths, &s[..n], letters, true, symbols, verdicts, ends)
-}
-
-// The same, with an array for the symbols.
-fn read_unknown(
+// Reads the segments of a layout from at most N letters with an N among them.
+fn read_beside<const N: usize>(
     lengths: &[u16],
     letters: &[u8],
     symbols: &mut [u8],
     verdicts: &mut [u32],
     ends: &mut [u16],
 )
-    requires received { (length letters.now ≤ most_letters) × Lengths longest lengths.now × (true ≡ has_unknown letters.now) }
+    requires room { (length letters.now ≤ N) × (N ≤ most_letters) }
+    requires received { Lengths longest lengths.now × (true ≡ has_unknown letters.now) }
     requires lent { Lent lengths.now symbols.old verdicts.old ends.old }
     ensures { Walked lengths.now letters.now symbols.new verdicts.new ends.new }
 {
-    if letters.len() <= SHORT_LETTERS {
-        let mut s = [0u8; SHORT_LETTERS];
-        read_beside(lengths, &mut s, letters, symbols, verdicts, ends);
-        return;
-    }
-    let mut s = [0u8; 4096];
-    read_beside(lengths, &mut s, letters, symbols, verdicts, ends)
+    let mut s = [0; N];
+    as_symbols(letters, &mut s);
+    let n = letters.len();
+    let strand = Strand {
+        symbols: &s[..n],
+        letters,
+    };
+    read_segments(lengths, &strand, true, symbols, verdicts, ends)
 }
 
 // Reads the segments of a layout: their messages, the numbers of their verdicts and where each ends. `unknown` says whether an N is among the letters;
@@ -124,11 +103,17 @@ pub fn read_layout(
     requires lent { Lent lengths.now symbols.old verdicts.old ends.old }
     ensures { Walked lengths.now letters.now symbols.new verdicts.new ends.new }
 {
-    if unknown {
-        read_unknown(lengths, letters, symbols, verdicts, ends);
-        return;
+    if !unknown {
+        let strand = Strand {
+            symbols: letters,
+            letters,
+        };
+        read_segments(lengths, &strand, false, symbols, verdicts, ends)
+    } else if letters.len() <= SHORT_LETTERS {
+        read_beside::<SHORT_LETTERS>(lengths, letters, symbols, verdicts, ends)
+    } else {
+        read_beside::<4096>(lengths, letters, symbols, verdicts, ends)
     }
-    read_segments(lengths, letters, letters, false, symbols, verdicts, ends)
 }
 
 // Reads the segments of an order for the numbers of their verdicts and where each ends; their messages are left in `symbols`.

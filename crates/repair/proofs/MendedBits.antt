@@ -1,6 +1,6 @@
 -- The bits of a mended word, place by place, and a symbol of two words.
-use mathlib.Core.Path.{◌≡◌, refl, sym, ap, ◌∙◌}
-use mathlib.Core.Bool.{Bool, true, false}
+use mathlib.Core.Path.{◌≡◌, refl, ap, ◌∙◌}
+use mathlib.Core.Bool.{Bool, false}
 use mathlib.Core.List.{[], ◌∷◌}
 use Prim.Native.Nat.{ℕ, zero, suc, ◌+◌, ◌-◌, ◌*◌, ◌≤◌, ◌<◌, min}
 use native.Mathlib.Nat.{not-suc-le-zero, le_of_suc-le-suc}
@@ -9,7 +9,6 @@ use native.Mathlib.Decide.{dec_le}
 use native.Mathlib.Omega.{arith}
 use lib.ListN.{length, get_or}
 use lib.Seq.{get_or-set_other}
-use mir.Val.{bool_byte}
 use Rattle.code.specs.declared.Link.{Link}
 use Rattle.code.specs.declared.Link.TheVariants.{Changed, More, Less}
 use Rattle.code.specs.Layers.{Word, digit, pair}
@@ -21,11 +20,6 @@ use Rattle.repair.specs.LayerRepair.{past_all}
 -- a bit as a number that the code reads
 pub digit_is : (b c : Bool) (n : ℕ) → b ≡ c → n ≡ digit b → (n ≡ digit c) × (n < 2)
 digit_is b c n e f = (f ∙ ap digit e, omega (arith, digit_below b))
-
--- a bool of the code as a number
-pub byte_is : (b c : Bool) → c ≡ b → (bool_byte b ≡ digit c) × (bool_byte b < 2)
-byte_is true c e = (ap digit (sym e), omega arith)
-byte_is false c e = (ap digit (sym e), omega arith)
 
 pub leave_before : (at i : ℕ) (w : Word) → i < at → i < length w → get_or (leave_out at w) i false ≡ get_or w i false
 leave_before zero i w h l = absurd (not-suc-le-zero h)

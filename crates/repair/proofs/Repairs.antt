@@ -1,4 +1,5 @@
 -- A bit mended at a place is the repair, and where no place will do there is none.
+use Rattle.std.specs.Prelude as P
 use mathlib.Core.Path.{◌≡◌, refl, sym, ap, ◌∙◌}
 use mathlib.Core.Bool.{Bool, true, false, cond}
 use Prim.Native.Nat.{ℕ, suc, ◌+◌, ◌-◌, ◌*◌, ◌%◌, ◌≤◌, ◌<◌}
@@ -7,7 +8,6 @@ use native.Mathlib.Omega.{arith}
 use lib.ListN.{length, get_or, drop, set, length-drop}
 use lib.Seq.{set_out}
 use Rattle.code.specs.declared.Link.TheVariants.{Changed, More, Less}
-use Rattle.code.specs.declared.Repair.TheVariants.{At, Nothing}
 use Rattle.code.specs.Layers.{Word, ones, sum_of_places, syndrome}
 use Rattle.code.proofs.laws.Layers.{ones-le}
 use Rattle.code.specs.Links.{Linked, same, changed, more, less, Without, Change}
@@ -43,7 +43,7 @@ module _ (r : Word) (k x v d : ℕ) (size : suc (length r) ≡ k) (sum : x ≡ s
   less_step : Ahead (sum_of_places r) v (2 * k) d
   less_step = rw (ahead_d, ← sum) (ahead_is x v (2 * k) (omega arith))
 
-  pub less_found : (i : ℕ) (b : Bool) → i ≤ length r → ones (drop i r) + cond b (suc i) 0 ≡ d → mended Less r (At i b) ≡ repair Less v r
+  pub less_found : (i : ℕ) (b : Bool) → i ≤ length r → ones (drop i r) + cond b (suc i) 0 ≡ d → mended Less r (P.Some (record { at = i; bit = b })) ≡ repair Less v r
   unfolding mended
   less_found i b h e =
       let o = put_Without i b r h in
@@ -59,7 +59,7 @@ module _ (r : Word) (k x v d : ℕ) (size : suc (length r) ≡ k) (sum : x ≡ s
       let m = was_written k v (sum_of_places r + g) w (without_length o ∙ size) small s f in
       (p.0, p.1, Ahead-only (sum_of_places r) v (2 * k) less_step (omega (arith, gain_le p.0 b r p.1)) m)
 
-  pub less_none : ((i : ℕ) (b : Bool) → i ≤ length r → ones (drop i r) + cond b (suc i) 0 ≡ d → ⊥) → mended Less r Nothing ≡ repair Less v r
+  pub less_none : ((i : ℕ) (b : Bool) → i ≤ length r → ones (drop i r) + cond b (suc i) 0 ≡ d → ⊥) → mended Less r P.None ≡ repair Less v r
   unfolding mended
   less_none tried = sym (repair_nothing Less v r (λ w f. unlink f.joined f.written))
     where
@@ -84,7 +84,7 @@ module _ (r : Word) (k x v d : ℕ) (size : length r ≡ suc k) (two : 2 ≤ k) 
   more_step : Ahead v (sum_of_places r) (2 * k) d
   more_step = rw (ahead_d, ← sum) (ahead_is v x (2 * k) (omega arith))
 
-  pub more_found : (i : ℕ) (b : Bool) → i < length r → ones (drop (suc i) r) + cond (get_or r i false) (suc i) 0 ≡ d → mended More r (At i b) ≡ repair More v r
+  pub more_found : (i : ℕ) (b : Bool) → i < length r → ones (drop (suc i) r) + cond (get_or r i false) (suc i) 0 ≡ d → mended More r (P.Some (record { at = i; bit = b })) ≡ repair More v r
   unfolding mended
   more_found i b h e =
       let o = left_Without i r h in
@@ -104,7 +104,7 @@ module _ (r : Word) (k x v d : ℕ) (size : length r ≡ suc k) (two : 2 ≤ k) 
       let m : (v + l) % (2 * k) ≡ sum_of_places r % (2 * k) = rw s (sym (mod-add-mod v (2 * k) l) ∙ ap (λ (n : ℕ). (n + l) % (2 * k)) (sym e) ∙ mod-add-mod (sum_of_places w) (2 * k) l) in
       (p.0, p.1, Ahead-only v (sum_of_places r) (2 * k) more_step (omega (arith, loss_le p.0 r p.1)) m)
 
-  pub more_none : ((i : ℕ) → i < length r → ones (drop (suc i) r) + cond (get_or r i false) (suc i) 0 ≡ d → ⊥) → mended More r Nothing ≡ repair More v r
+  pub more_none : ((i : ℕ) → i < length r → ones (drop (suc i) r) + cond (get_or r i false) (suc i) 0 ≡ d → ⊥) → mended More r P.None ≡ repair More v r
   unfolding mended
   more_none tried = sym (repair_nothing More v r (λ w f. unlink f.joined f.written))
     where
@@ -117,20 +117,20 @@ module _ (r : Word) (k x v d : ℕ) (size : length r ≡ k) (sum : x ≡ sum_of_
   changed_step : Ahead (sum_of_places r) v (2 * k) d
   changed_step = rw (ahead_d, ← sum) (ahead_is x v (2 * k) (omega arith))
 
-  pub changed_same : (i : ℕ) (b : Bool) → k ≤ i → d ≡ 0 → mended Changed r (At i b) ≡ repair Changed v r
+  pub changed_same : (i : ℕ) (b : Bool) → k ≤ i → d ≡ 0 → mended Changed r (P.Some (record { at = i; bit = b })) ≡ repair Changed v r
   unfolding mended
   changed_same i b h e =
       let s : sum_of_places r ≡ sum_of_places r + d = omega arith in
       rw (set_out r i b (omega arith)) (sym (repair_is (record { joined = same; written = is_written k v (sum_of_places r + d) r size small s changed_step.meets })))
 
-  pub changed_raised : (i : ℕ) → i < k → get_or r i false ≡ false → suc i ≡ d → mended Changed r (At i true) ≡ repair Changed v r
+  pub changed_raised : (i : ℕ) → i < k → get_or r i false ≡ false → suc i ≡ d → mended Changed r (P.Some (record { at = i; bit = true })) ≡ repair Changed v r
   unfolding mended
   changed_raised i h z e =
       let c = set_change i true r (omega arith) z in
       let s : sum_of_places (set r i true) ≡ sum_of_places r + d = omega (arith, raised_sum c) in
       sym (repair_is (record { joined = changed c; written = is_written k v (sum_of_places r + d) (set r i true) (change_length c ∙ size) small s changed_step.meets }))
 
-  pub changed_lowered : (i : ℕ) → i < k → get_or r i false ≡ true → suc i + d ≡ 2 * k → mended Changed r (At i false) ≡ repair Changed v r
+  pub changed_lowered : (i : ℕ) → i < k → get_or r i false ≡ true → suc i + d ≡ 2 * k → mended Changed r (P.Some (record { at = i; bit = false })) ≡ repair Changed v r
   unfolding mended
   changed_lowered i h z e =
       let c = set_change i false r (omega arith) z in
@@ -155,7 +155,7 @@ module _ (r : Word) (k x v d : ℕ) (size : length r ≡ k) (sum : x ≡ sum_of_
       let q = Ahead-only (sum_of_places r) v (2 * k) changed_step (omega arith) m in
       omega arith
 
-  pub changed_none : (d ≡ 0 → ⊥) → ((i : ℕ) → i < k → get_or r i false ≡ false → suc i ≡ d → ⊥) → ((i : ℕ) → i < k → get_or r i false ≡ true → suc i + d ≡ 2 * k → ⊥) → mended Changed r Nothing ≡ repair Changed v r
+  pub changed_none : (d ≡ 0 → ⊥) → ((i : ℕ) → i < k → get_or r i false ≡ false → suc i ≡ d → ⊥) → ((i : ℕ) → i < k → get_or r i false ≡ true → suc i + d ≡ 2 * k → ⊥) → mended Changed r P.None ≡ repair Changed v r
   unfolding mended
   changed_none apart up down = sym (repair_nothing Changed v r (λ w f. unlink f.joined f.written))
     where

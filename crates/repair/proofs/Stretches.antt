@@ -1,6 +1,8 @@
 -- The stretches of symbols before and behind the mended places.
 --   lowest_none      no symbol
---   put_lowest       one more symbol of a stretch
+--   next_lowest      one more symbol of the first ones
+--   put_front        a stretch put at the front
+--   put_rear         a stretch put at the end
 --   stretch          right symbols put behind right ones
 --   rest_few         the symbols behind the mended places are no more than the received ones
 --   inside           a mended place is one of the sent word's, or its end
@@ -11,12 +13,14 @@
 --   stretch_Behind   those behind the mended places
 use mathlib.Core.Path.{◌≡◌, refl, sym, ap, ◌∙◌}
 use mathlib.Core.Bool.{Bool, false}
-use mathlib.Core.List.{List, [], ◌∷◌, ◌++◌, map-append}
+use mathlib.Core.List.{List, [], ◌∷◌, ◌++◌, map, map-append}
 use Prim.Native.Nat.{ℕ, suc, ◌+◌, ◌-◌, ◌*◌, ◌%◌, ◌≤◌, ◌<◌, min, max}
+use native.Mathlib.Nat.{sub-zero}
+use Rattle.std.proofs.lemmas.List.{append-nil}
 use native.Mathlib.Numerals.{add-one}
 use native.Mathlib.Omega.{arith}
 use lib.Bits.{bit_and, and_mask}
-use lib.ListN.{length, get_or, set, take, drop, length-append, length-map, length-take, length-drop, get_or-map}
+use lib.ListN.{length, get_or, set, take, drop, length-append, length-map, length-take, length-drop, get_or-map, drop_of_length-le}
 use lib.Seq.{take_all, take-suc, take-add, take-suc-set, get_or-take, get_or-drop, ext_get_or}
 use Rattle.code.specs.declared.Link.{Link}
 use Rattle.code.specs.declared.Link.TheVariants.{Changed, More, Less}
@@ -24,9 +28,9 @@ use Rattle.code.specs.Layers.{Word, layer, digit, pair}
 use Rattle.code.proofs.laws.Layers.{digit-bit, length-layer, layer_at_lem, length-pair}
 use Rattle.code.specs.Links.{sent}
 use Rattle.code.specs.Buffers.{put_at}
-use Rattle.code.proofs.laws.Lists.{put_one, take_put, length_put}
+use Rattle.code.proofs.laws.Lists.{take_put, length_put}
 use Rattle.code.specs.Repair.{mended_word}
-use Rattle.repair.specs.declared.Fix.{Fix}
+use Rattle.code.specs.declared.Fix.{Fix}
 use Rattle.repair.specs.LayerRepair.{lowest, past_all, mended_layer}
 use Rattle.repair.proofs.MendedBits.{before_mended, received, Behind, past_above, past_Behind, Behind-mended, pair_at}
 
@@ -48,12 +52,27 @@ lowest_next s i n h =
     let l : n < length (drop i s) = rw length-drop h in
     rw (add-one n, take-suc (drop i s) n 0 l, map-append, get_or-drop)
 
--- one more symbol of a stretch
-pub put_lowest : (s d : List ℕ) (i at n : ℕ) → n < length s - i → at + n < length d → set (put_at d at (lowest s i n)) (at + n) (bit_and (get_or s (i + n) 0) 3) ≡ put_at d at (lowest s i (n + 1))
-put_lowest s d i at n h room =
-    let e : length (lowest s i n) ≡ n = length-lowest s i n (omega arith) in
-    let m : bit_and (get_or s (i + n) 0) 3 ≡ get_or s (i + n) 0 % 4 = and_mask (get_or s (i + n) 0) 2 in
-    rw (m, lowest_next s i n h) (rw e at (put_one d at (lowest s i n) (omega arith) (get_or s (i + n) 0 % 4) (omega arith)))
+-- one more symbol of the first ones
+pub next_lowest : (s d : List ℕ) (n : ℕ) → n < length s → n < length d → take n d ≡ lowest s 0 n → take (n + 1) (set d n (bit_and (get_or s n 0) 3)) ≡ lowest s 0 (n + 1)
+next_lowest s d n h room e =
+    let z : 0 + n ≡ n = omega arith in
+    let l : n < length s - 0 = omega arith in
+    rw (lowest_next s 0 n l, z, add-one n, take-suc-set d n (bit_and (get_or s n 0) 3) room, e, and_mask (get_or s n 0) 2)
+
+-- a stretch put at the front
+pub put_front : (s d : List ℕ) (to : ℕ) → to ≤ length s → lowest s 0 to ++ drop to d ≡ put_at d 0 (lowest s 0 (to - 0))
+unfolding put_at
+put_front s d to h =
+    let l : 0 + length (lowest s 0 to) ≡ to = omega (arith, length-lowest s 0 to (omega arith)) in
+    rw (sub-zero to, l)
+
+-- a stretch put at the end, and nothing behind it
+pub put_rear : (s d w t : List ℕ) (from at n m : ℕ) → w ≡ drop from s → m ≡ n → t ≡ [] → n ≤ length s - from → length d ≡ at + n → take at d ++ (lowest w 0 m ++ t) ≡ put_at d at (lowest s from n)
+unfolding put_at lowest
+put_rear s d w t from at n m e f g h room =
+    let l : length (map (λ (x : ℕ). x % 4) (take n (drop from s))) ≡ n = length-lowest s from n h in
+    let none = drop_of_length-le d {i = at + n} (omega arith) in
+    rw (e, f, g, l, none, append-nil (take at d ++ lowest s from n), append-nil (lowest s from n))
 
 -- the symbols up to `at` are those of p; so are the ones put there, up to `to`
 stretch : (s p d : List ℕ) (from at to : ℕ) → at ≤ to → to ≤ length p → length d ≡ length p → to - at ≤ length s - from → ((j : ℕ) → j < to - at → get_or p (at + j) 0 ≡ get_or s (from + j) 0 % 4) → take at d ≡ take at p → take to (put_at d at (lowest s from (to - at))) ≡ take to p
@@ -88,18 +107,18 @@ inside Less w at n b l e = omega arith
 -- the mended places lie from `first` to before `last`, k being the number of sent symbols and n that of received ones
 pub record Places (link : Link) (n k high low first last : ℕ) : Type 0 where
   pub front : (first ≤ high) × (first ≤ low) × (first ≤ n)
-  pub end : (first ≤ k) × (last ≤ k)
+  pub end : (first ≤ last) × (last ≤ k)
   pub some : link ≡ Less → 0 < last
   pub rear : (i : ℕ) → last ≤ i → i < k → Behind link high i × Behind link low i
 
-pub places : (link : Link) (n k high low both first p q g last : ℕ) → k ≡ sent link n → min high n ≤ sent link n → both ≡ min high low → first ≡ min both n
-    → (high < n → p ≡ high + 1) × (n ≤ high → p ≡ past_all link n) → (low < n → q ≡ low + 1) × (n ≤ low → q ≡ past_all link n) → g ≡ max p q → last ≡ min g k → Places link n k high low first last
-places link n k high low both first p q g last size there a b u v c d =
+pub places : (link : Link) (n k high low both first p q g h last : ℕ) → k ≡ sent link n → min high n ≤ sent link n → both ≡ min high low → first ≡ min both n
+    → (high < n → p ≡ high + 1) × (n ≤ high → p ≡ past_all link n) → (low < n → q ≡ low + 1) × (n ≤ low → q ≡ past_all link n) → g ≡ max p q → h ≡ min g k → last ≡ max h first → Places link n k high low first last
+places link n k high low both first p q g h last size there a b u v c d e =
     record {
       front = (omega arith, omega arith, omega arith);
       end = (omega arith, omega arith);
-      some = λ e. let z : k ≡ suc n = size ∙ ap (λ (x : Link). sent x n) e in omega (arith, past_above n high p (past_all link n) u.0 u.1, ap (λ (x : Link). past_all x n) e);
-      rear = λ i h l. let m : i < sent link n = rw size at l in (past_Behind link n high p i u.0 u.1 (omega arith) m, past_Behind link n low q i v.0 v.1 (omega arith) m);
+      some = λ f. let z : k ≡ suc n = size ∙ ap (λ (x : Link). sent x n) f in omega (arith, past_above n high p (past_all link n) u.0 u.1, ap (λ (x : Link). past_all x n) f);
+      rear = λ i j l. let m : i < sent link n = rw size at l in (past_Behind link n high p i u.0 u.1 (omega arith) m, past_Behind link n low q i v.0 v.1 (omega arith) m);
     }
 
 -- the symbols of two mended layers

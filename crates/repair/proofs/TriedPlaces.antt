@@ -3,7 +3,7 @@ use mathlib.Core.Path.{◌≡◌, refl, sym, ◌∙◌}
 use mathlib.Core.Bool.{Bool, true, false, cond}
 use mathlib.Core.List.{List}
 use mathlib.Core.Logic.{⊎_elim}
-use Prim.Native.Nat.{ℕ, suc, ◌+◌, ◌≤◌, ◌<◌}
+use Prim.Native.Nat.{ℕ, suc, ◌+◌, ◌-◌, ◌≤◌, ◌<◌}
 use native.Mathlib.Nat.{eq-or-lt_of_le}
 use native.Mathlib.Numerals.{add-one}
 use native.Mathlib.Omega.{arith}
@@ -37,19 +37,25 @@ pub record MoreTried (r : Word) (d i o : ℕ) : Type 0 where
   pub counted : o ≡ ones (drop i r)
   pub tried : (j : ℕ) → i ≤ j → j < length r → ones (drop (suc j) r) + cond (get_or r j false) (suc j) 0 ≡ d → ⊥
 
--- no bit put in behind place i adds d to the sum; o ones stand from i on
+-- no bit put in at place i or behind adds d to the sum; o ones stand from the place before i on
 pub record LessTried (r : Word) (d i o : ℕ) : Type 0 where
-  pub counted : o ≡ ones (drop i r)
-  pub tried : (j : ℕ) (b : Bool) → i < j → j ≤ length r → ones (drop j r) + cond b (suc j) 0 ≡ d → ⊥
+  pub counted : o ≡ ones (drop (i - 1) r)
+  pub tried : (j : ℕ) (b : Bool) → i ≤ j → j ≤ length r → ones (drop j r) + cond b (suc j) 0 ≡ d → ⊥
 
 -- with place i tried too, none from i on is left
-pub less_from : (r : Word) (d i o : ℕ) → LessTried r d i o → (o ≡ d → ⊥) → (o + i + 1 ≡ d → ⊥) → (k : ℕ) (b : Bool) → i ≤ k → k ≤ length r → ones (drop k r) + cond b (suc k) 0 ≡ d → ⊥
-less_from r d i o t n n' k b l f g =
-    ⊎_elim (λ (q : i ≡ k). at b (rw q g)) (λ (q : i < k). t.tried k b q f g) (eq-or-lt_of_le l)
+pub less_turn : (r : Word) (d i o p : ℕ) → LessTried r d (suc i) o → p ≡ ones (drop (i - 1) r) → (o ≡ d → ⊥) → (o + i + 1 ≡ d → ⊥) → LessTried r d i p
+less_turn r d i o p t c n n' =
+    record {
+      counted = c;
+      tried = λ k b l f g. ⊎_elim (λ (q : i ≡ k). at b (rw q g)) (λ (q : i < k). t.tried k b q f g) (eq-or-lt_of_le l);
+    }
   where
+    here : o ≡ ones (drop i r)
+    here = let e : suc i - 1 ≡ i = omega arith in rw e at t.counted
+
     at : (b : Bool) → ones (drop i r) + cond b (suc i) 0 ≡ d → ⊥
-    at false e = n (omega (arith, t.counted))
-    at true e = n' (omega (arith, t.counted))
+    at false e = n (omega (arith, here))
+    at true e = n' (omega (arith, here))
 
 module _ (s : ℕ) (m : List ℕ) (d : ℕ) where
   pub more_begin : MoreTried (layer s m) d (length m) 0
@@ -83,13 +89,13 @@ module _ (s : ℕ) (m : List ℕ) (d : ℕ) where
                 (eq-or-lt_of_le l);
           }
 
-    pub less_turn : LessTried (layer s m) d i o → (o ≡ d → ⊥) → (o + i + 1 ≡ d → ⊥) → LessTried (layer s m) d j (o + b)
-    less_turn t misses misses' =
-        let c : o ≡ ones (drop (suc j) (layer s m)) = t.counted ∙ rw next in
-        record {
-          counted = omega (arith, ones_step s m j inside);
-          tried = λ k y l f g. less_from (layer s m) d i o t misses misses' k y (omega arith) f g;
-        }
+    -- the ones from place j on
+    pub less_counted : o ≡ ones (drop i (layer s m)) → o + b ≡ ones (drop j (layer s m))
+    less_counted c =
+        let e : o ≡ ones (drop (suc j) (layer s m)) = c ∙ rw next in
+        omega (arith, ones_step s m j inside)
 
-  pub less_begin : LessTried (layer s m) d (length m) 0
-  less_begin = record { counted = sym (no_ones s m); tried = λ j b l h e. omega (arith, length-layer s m) }
+  pub less_begin : LessTried (layer s m) d (length m + 1) 0
+  less_begin =
+      let e : length m + 1 - 1 ≡ length m = omega arith in
+      record { counted = rw e (sym (no_ones s m)); tried = λ j b l h e. omega (arith, length-layer s m) }

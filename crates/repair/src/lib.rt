@@ -4,15 +4,18 @@
 
 ghost use Rattle.std.specs.Prelude.{◌≡◌, ◌+◌, ◌-◌, ◌*◌, ◌<◌, ◌≤◌, min, max, false, length, get_or};
 ghost use Rattle.code.specs.Bounds.{longest, Length};
-ghost use Rattle.code.specs.Buffers.{put_at};
-ghost use Rattle.code.specs.Layers.{layer, digit, pair, sum_of_places};
+ghost use Rattle.code.specs.Layers.{digit, pair};
 ghost use Rattle.code.specs.Links.{sent};
 ghost use Rattle.code.specs.Repair.{repair, mended, mended_word};
 ghost use Rattle.code.specs.declared.Link.TheVariants.{Changed, More, Less};
-ghost use Rattle.repair.specs.LayerRepair.{ahead, lowest, mended_layer, past_all};
+ghost use Rattle.layers.specs.LayerSums.{layer_of};
+ghost use Rattle.repair.specs.LayerRepair.{ahead, lowest, mended_layer, past_all, word_of};
 
-use code::{Link, Repair};
-use layers::{digit_of, place_if_one};
+pub mod summed;
+
+use crate::summed::SummedLayer;
+use code::{Fix, Link};
+use layers::Layer;
 
 // The least number that leads from a to b modulo m.
 fn ahead_of(a: usize, b: usize, m: usize) -> usize
@@ -23,185 +26,153 @@ fn ahead_of(a: usize, b: usize, m: usize) -> usize
 }
 
 // The repair of a layer with at most one changed bit: the step to the written syndrome names the only place.
-fn repair_changed(symbols: &[u8], shift: u8, sum: usize, written: usize) -> Repair
-    requires { (shift < 2) × (0 < length symbols.now) × (length symbols.now ≤ longest) × (sum ≡ sum_of_places (layer shift symbols.now)) }
-    ensures { mended Changed (layer shift symbols.now) result ≡ repair Changed written (layer shift symbols.now) }
+fn repair_changed(summed: &SummedLayer, written: usize) -> Option<Fix>
+    requires { (0 < length summed.now.symbols.now) × (length summed.now.symbols.now ≤ longest) }
+    ensures { mended Changed (word_of summed.now) result ≡ repair Changed written (word_of summed.now) }
 {
-    let k = symbols.len();
+    let k = summed.symbols.len();
     if 2 * k <= written {
-        return Repair::Nothing;
+        return None;
     }
-    let d = ahead_of(sum, written, 2 * k);
+    let d = ahead_of(summed.sum, written, 2 * k);
     if d == 0 {
-        return Repair::At(k, false);
+        return Some(Fix { at: k, bit: false });
     }
     if d < k {
         let i = d - 1;
-        if digit_of(symbols[i], shift) == 0 {
-            return Repair::At(i, true);
+        if summed.layer.digit(summed.symbols[i]) == 0 {
+            return Some(Fix { at: i, bit: true });
         }
-        return Repair::Nothing;
+        return None;
     }
     let i = 2 * k - d - 1;
-    if digit_of(symbols[i], shift) == 1 {
-        return Repair::At(i, false);
+    if summed.layer.digit(summed.symbols[i]) == 1 {
+        return Some(Fix { at: i, bit: false });
     }
     if d == k {
-        return Repair::At(i, true);
+        return Some(Fix { at: i, bit: true });
     }
-    Repair::Nothing
+    None
 }
 
 // The repair of a layer with one bit more: the bit left out takes the ones behind it from the sum, and its own place if it is a one.
-fn repair_more(symbols: &[u8], shift: u8, sum: usize, written: usize) -> Repair
-    requires { (shift < 2) × (2 < length symbols.now) × (length symbols.now ≤ longest + 1) × (sum ≡ sum_of_places (layer shift symbols.now)) }
-    ensures { mended More (layer shift symbols.now) result ≡ repair More written (layer shift symbols.now) }
+fn repair_more(summed: &SummedLayer, written: usize) -> Option<Fix>
+    requires { (2 < length summed.now.symbols.now) × (length summed.now.symbols.now ≤ longest + 1) }
+    ensures { mended More (word_of summed.now) result ≡ repair More written (word_of summed.now) }
 {
-    let mut i = symbols.len();
-    let m = 2 * (i - 1);
+    let n = summed.symbols.len();
+    let m = 2 * (n - 1);
     if m <= written {
-        return Repair::Nothing;
+        return None;
     }
-    let d = ahead_of(written, sum, m);
+    let d = ahead_of(written, summed.sum, m);
     let mut ones: usize = 0;
-    while 0 < i {
-        i -= 1;
-        let b = digit_of(symbols[i], shift);
-        if ones + place_if_one(symbols[i], shift, i + 1) == d {
-            return Repair::At(i, b == 1);
+    for i in (0..n).rev() {
+        let b = summed.layer.digit(summed.symbols[i]);
+        if ones + summed.layer.place_if_one(summed.symbols[i], i + 1) == d {
+            return Some(Fix { at: i, bit: b == 1 });
         }
         ones += b;
     }
-    Repair::Nothing
+    None
 }
 
 // The repair of a layer with one bit less: the bit put in adds the ones behind it to the sum, and its own place if it is a one.
-fn repair_less(symbols: &[u8], shift: u8, sum: usize, written: usize) -> Repair
-    requires { (shift < 2) × (length symbols.now < longest) × (sum ≡ sum_of_places (layer shift symbols.now)) }
-    ensures { mended Less (layer shift symbols.now) result ≡ repair Less written (layer shift symbols.now) }
+fn repair_less(summed: &SummedLayer, written: usize) -> Option<Fix>
+    requires { length summed.now.symbols.now < longest }
+    ensures { mended Less (word_of summed.now) result ≡ repair Less written (word_of summed.now) }
 {
-    let mut i = symbols.len();
-    let m = 2 * (i + 1);
+    let n = summed.symbols.len();
+    let m = 2 * (n + 1);
     if m <= written {
-        return Repair::Nothing;
+        return None;
     }
-    let d = ahead_of(sum, written, m);
+    let d = ahead_of(summed.sum, written, m);
     let mut ones: usize = 0;
-    loop {
+    for i in (0..n + 1).rev() {
         if ones == d {
-            return Repair::At(i, false);
+            return Some(Fix { at: i, bit: false });
         }
         if ones + i + 1 == d {
-            return Repair::At(i, true);
+            return Some(Fix { at: i, bit: true });
         }
-        if i == 0 {
-            return Repair::Nothing;
+        if 0 < i {
+            ones += summed.layer.digit(summed.symbols[i - 1]);
         }
-        i -= 1;
-        ones += digit_of(symbols[i], shift);
     }
+    None
 }
 
-// The repair of the layer `shift` of received symbols, given their sum of places in that layer and the written syndrome.
-pub fn repair_layer(link: Link, symbols: &[u8], shift: u8, sum: usize, written: usize) -> Repair
-    requires { (shift < 2) × Length (sent link (length symbols.now)) × (sum ≡ sum_of_places (layer shift symbols.now)) }
-    ensures { mended link (layer shift symbols.now) result ≡ repair link written (layer shift symbols.now) }
+// The repair of one layer of received symbols, given the written syndrome; a function for each link, since they share no step.
+pub fn repair_layer(link: Link, summed: &SummedLayer, written: usize) -> Option<Fix>
+    requires { Length (sent link (length summed.now.symbols.now)) }
+    ensures { mended link (word_of summed.now) result ≡ repair link written (word_of summed.now) }
 {
     match link {
-        Link::Changed => repair_changed(symbols, shift, sum, written),
-        Link::More => repair_more(symbols, shift, sum, written),
-        Link::Less => repair_less(symbols, shift, sum, written),
+        Link::Changed => repair_changed(summed, written),
+        Link::More => repair_more(summed, written),
+        Link::Less => repair_less(summed, written),
     }
 }
 
-// The bit at place i of a layer with `bit` set at place `at`.
-fn changed_digit(symbols: &[u8], shift: u8, at: usize, bit: bool, i: usize) -> usize
-    requires { (shift < 2) × (i < length symbols.now) }
-    ensures { (result ≡ digit (get_or (mended_word Changed (layer shift symbols.now) at bit) i false)) × (result < 2) }
+// The bit at place i of a layer with the fix's bit set at its place.
+fn changed_digit(symbols: &[u8], layer: Layer, fix: Fix, i: usize) -> usize
+    requires { i < length symbols.now }
+    ensures { (result ≡ digit (get_or (mended_word Changed (layer_of layer symbols.now) fix.at fix.bit) i false)) × (result < 2) }
 {
-    if i == at {
-        return bit as usize;
+    if i == fix.at {
+        return usize::from(fix.bit);
     }
-    digit_of(symbols[i], shift)
+    layer.digit(symbols[i])
 }
 
-// The bit at place i of a layer with the bit at place `at` left out.
-fn more_digit(symbols: &[u8], shift: u8, at: usize, bit: bool, i: usize) -> usize
-    requires { (shift < 2) × (i + 1 < length symbols.now) }
-    ensures { (result ≡ digit (get_or (mended_word More (layer shift symbols.now) at bit) i false)) × (result < 2) }
+// The bit at place i of a layer with the bit at the fix's place left out.
+fn more_digit(symbols: &[u8], layer: Layer, fix: Fix, i: usize) -> usize
+    requires { i + 1 < length symbols.now }
+    ensures { (result ≡ digit (get_or (mended_word More (layer_of layer symbols.now) fix.at fix.bit) i false)) × (result < 2) }
 {
-    if i < at {
-        return digit_of(symbols[i], shift);
+    if i < fix.at {
+        return layer.digit(symbols[i]);
     }
-    digit_of(symbols[i + 1], shift)
+    layer.digit(symbols[i + 1])
 }
 
-// The bit at place i of a layer with `bit` put in before place `at`.
-fn less_digit(symbols: &[u8], shift: u8, at: usize, bit: bool, i: usize) -> usize
-    requires { (shift < 2) × (i ≤ length symbols.now) }
-    ensures { (result ≡ digit (get_or (mended_word Less (layer shift symbols.now) at bit) i false)) × (result < 2) }
+// The bit at place i of a layer with the fix's bit put in before its place.
+fn less_digit(symbols: &[u8], layer: Layer, fix: Fix, i: usize) -> usize
+    requires { i ≤ length symbols.now }
+    ensures { (result ≡ digit (get_or (mended_word Less (layer_of layer symbols.now) fix.at fix.bit) i false)) × (result < 2) }
 {
-    if i < at {
+    if i < fix.at {
         if i < symbols.len() {
-            return digit_of(symbols[i], shift);
+            return layer.digit(symbols[i]);
         }
-        return bit as usize;
+        return usize::from(fix.bit);
     }
-    if i == at {
-        return bit as usize;
+    if i == fix.at {
+        return usize::from(fix.bit);
     }
-    digit_of(symbols[i - 1], shift)
+    layer.digit(symbols[i - 1])
 }
 
 // The bit at place i of a mended layer.
-fn mended_digit(link: Link, symbols: &[u8], shift: u8, at: usize, bit: bool, i: usize) -> usize
-    requires { (shift < 2) × (i < sent link (length symbols.now)) }
-    ensures { (result ≡ digit (get_or (mended_word link (layer shift symbols.now) at bit) i false)) × (result < 2) }
+fn mended_digit(link: Link, symbols: &[u8], layer: Layer, fix: Fix, i: usize) -> usize
+    requires { i < sent link (length symbols.now) }
+    ensures { (result ≡ digit (get_or (mended_word link (layer_of layer symbols.now) fix.at fix.bit) i false)) × (result < 2) }
 {
     match link {
-        Link::Changed => changed_digit(symbols, shift, at, bit, i),
-        Link::More => more_digit(symbols, shift, at, bit, i),
-        Link::Less => less_digit(symbols, shift, at, bit, i),
+        Link::Changed => changed_digit(symbols, layer, fix, i),
+        Link::More => more_digit(symbols, layer, fix, i),
+        Link::Less => less_digit(symbols, layer, fix, i),
     }
 }
 
-// Where a layer is mended, and the bit that belongs there.
-#[derive(Clone, Copy)]
-pub struct Fix {
-    pub at: usize,
-    pub bit: bool,
-}
-
-// The least of two numbers.
-fn least(a: usize, b: usize) -> usize
-    ensures { result ≡ min a b }
+// The first symbols, by their lowest two bits, in all of `out`.
+fn put_symbols(symbols: &[u8], out: &mut [u8])
+    requires { length out.old ≤ length symbols.now }
+    ensures { out.new ≡ lowest symbols.now 0 (length out.old) }
 {
-    if a < b {
-        return a;
-    }
-    b
-}
-
-// The greatest of two numbers.
-fn greatest(a: usize, b: usize) -> usize
-    ensures { result ≡ max a b }
-{
-    if a < b {
-        return b;
-    }
-    a
-}
-
-// Symbols from place `from` on, by their lowest two bits, at the places from `at` to before `to` of `out`.
-fn put_symbols(symbols: &[u8], from: usize, out: &mut [u8], at: usize, to: usize)
-    requires { (at ≤ to) × (to ≤ length out.old) × (to - at ≤ length symbols.now - from) }
-    ensures { out.new ≡ put_at out.old at (lowest symbols.now from (to - at)) }
-{
-    let n = to - at;
-    let mut i = 0;
-    while i < n {
-        out[at + i] = symbols[from + i] & 3;
-        i += 1;
+    for i in 0..out.len() {
+        out[i] = symbols[i] & 3;
     }
 }
 
@@ -229,18 +200,16 @@ pub fn mended_pair(link: Link, symbols: &[u8], high: Fix, low: Fix, out: &mut [u
 {
     let n = symbols.len();
     let k = out.len();
-    let first = least(least(high.at, low.at), n);
-    let last = least(
-        greatest(past(link, symbols, high.at), past(link, symbols, low.at)),
-        k,
-    );
-    put_symbols(symbols, 0, out, 0, first);
-    let mut i = first;
-    while i < last {
-        let x = mended_digit(link, symbols, 1, high.at, high.bit, i);
-        let y = mended_digit(link, symbols, 0, low.at, low.bit, i);
+    let first = high.at.min(low.at).min(n);
+    let last = past(link, symbols, high.at)
+        .max(past(link, symbols, low.at))
+        .min(k)
+        .max(first);
+    put_symbols(symbols, &mut out[..first]);
+    for i in first..last {
+        let x = mended_digit(link, symbols, Layer::High, high, i);
+        let y = mended_digit(link, symbols, Layer::Low, low, i);
         out[i] = (2 * x + y) as u8;
-        i += 1;
     }
-    put_symbols(symbols, n - (k - i), out, i, k);
+    put_symbols(&symbols[n - (k - last)..], &mut out[last..]);
 }

@@ -1,4 +1,4 @@
 pub mod laws
-pub mod Putting
+pub mod Lines
 pub mod Outcomes
 pub mod Calls

@@ -1,14 +1,19 @@
 -- What is reported from the numbers and ends that a walk leaves is what is reported of the outcomes.
---   Fronts, in_front         what a walk found stands at the fronts of two arrays
---   Reports, found_reports   the verdicts of all segments
---   Stands, found_at         the verdict of one
-use mathlib.Core.Path.{◌≡◌, refl, sym, ap, ◌∙◌}
+--   reports_are, reportable, reports_room   the verdicts of all segments
+--   Stands, reported_stands, found_at       the verdict of one
+--   reported_count, ends_count, numbers_count   how many there are
+use mathlib.Core.Path.{◌≡◌, refl, sym, ap, subst, ◌∙◌}
+use mathlib.Core.Bool.{false}
 use mathlib.Core.List.{List, [], ◌∷◌, ◌++◌, map}
 use Prim.Native.Nat.{ℕ, zero, suc, ◌+◌, ◌-◌, ◌≤◌, ◌<◌}
 use native.Mathlib.Omega.{arith}
 use lib.ListN.{length, get_or, take, drop, length-append, length-map, length-take, length-drop}
 use lib.Seq.{length-take-le, take_at, drop_at, drop-drop, get_or-take}
-use Rattle.code.specs.Symbols.{Below, letter_kinds}
+use Rattle.code.specs.Symbols.{Below, letter_kinds, legible}
+use Rattle.code.proofs.laws.Symbols.{legible-Below}
+use Rattle.code.specs.Order.{Order, Taken}
+use Rattle.code.proofs.laws.Order.{Ordered, order_fine}
+use Rattle.code.proofs.laws.Layout.{Lengths-within}
 use Rattle.code.specs.Layout.{Lengths, joined}
 use Rattle.code.specs.Bounds.{longest}
 use Rattle.code.specs.Verdicts.{verdict_number, verdict_of}
@@ -18,12 +23,11 @@ use Rattle.code.proofs.laws.Strands.{length-outcomes, joined_pieces}
 use Rattle.code.specs.ReadCall.{pieces_of}
 use Rattle.code.specs.declared.Verdict.{Verdict}
 use Rattle.code.specs.declared.Verdict.TheVariants.{NoStart}
-use Rattle.reading.specs.Walks.{ends_from, Found, start_in}
-use Rattle.reading.proofs.Fronts.{length_ends}
-use Rattle.reading.proofs.Spans.{ends_count}
-use Rattle.lines.specs.Report.{in_letters, reported}
+use Rattle.reading.specs.Walks.{ends_from, start_in}
+use Rattle.reading.proofs.Fronts.{numbers_length}
+use Rattle.lines.specs.Report.{in_letters, reported, lines_of, most_report}
 use Rattle.report.specs.Walked.{Inside, part, reported_from, Reportable}
-use Rattle.report.proofs.laws.Named.{AllName, outcomes_name}
+use Rattle.report.proofs.laws.Named.{AllName, outcomes_name, lines_room}
 
 -- The pieces
 
@@ -78,56 +82,61 @@ stands_at_lem q (v ∷ vs) (e ∷ es) letters (suc i) r h = later i (stands_at_l
     later zero s = record { starts = s.starts; ends = s.ends; inside = s.inside; is = s.is }
     later (suc i) s = record { starts = s.starts; ends = s.ends; inside = s.inside; is = s.is }
 
--- What a walk found
+-- the first piece starts at 0
+start_is : (ends : List ℕ) (i : ℕ) → start_from 0 ends i ≡ start_in ends i
+start_is ends zero = refl
+start_is ends (suc i) = refl
 
--- it stands at the fronts of two arrays
-pub record Fronts (ks letters verdicts ends : List ℕ) : Type 0 where
-  pub numbers : take (length ks) verdicts ≡ map verdict_number (verdicts_of (outcomes ks letters))
-  pub places : take (length ks) ends ≡ ends_from 0 (outcomes ks letters)
+-- there is a verdict for each number
+pub reported_count : (q : ℕ) (vs es letters : List ℕ) → Reportable q vs es letters → length (reported_from q vs es letters) ≡ length vs
+unfolding reported_from
+reported_count q [] es letters r = refl
+reported_count q (v ∷ vs) [] letters r = absurd r
+reported_count q (v ∷ vs) (e ∷ es) letters r = ap suc (reported_count e vs es letters r.3)
 
-pub in_front : (ks letters verdicts ends r q : List ℕ) → Found ks letters verdicts ends → Fronts ks letters (verdicts ++ r) (ends ++ q)
-in_front ks letters verdicts ends r q f =
-    let m : length (map verdict_number (verdicts_of (outcomes ks letters))) ≡ length ks = simp length-map (length-outcomes ks letters) in
-    record {
-      numbers = take_at verdicts r (length ks) (ap length f.numbers ∙ m) ∙ f.numbers;
-      places = take_at ends q (length ks) (ends_count ks letters ends f.places) ∙ f.places;
-    }
+-- and an end
+pub ends_count : (q : ℕ) (vs es letters : List ℕ) → Reportable q vs es letters → length es ≡ length vs
+ends_count q [] [] letters r = refl
+ends_count q [] (e ∷ es) letters r = absurd r
+ends_count q (v ∷ vs) [] letters r = absurd r
+ends_count q (v ∷ vs) (e ∷ es) letters r = ap suc (ends_count e vs es letters r.3)
 
-module _ (ks letters verdicts ends : List ℕ) (lengths : Lengths longest ks) (legible : Below letter_kinds letters) (f : Fronts ks letters verdicts ends) where
+-- the segment behind the first i
+pub reported_stands : (vs es letters : List ℕ) (i : ℕ) → Reportable 0 vs es letters → i < length vs → Stands letters (reported_from 0 vs es letters) i (get_or vs i 0) (start_in es i) (get_or es i 0)
+reported_stands vs es letters i r h = rw (← start_is es i) (stands_at_lem 0 vs es letters i r h)
+
+-- What a walk found, ns being the letters cs as numbers
+module _ (o : Order) (t : Taken o) (cs ns numbers ends : List ℕ) (same : ns ≡ legible cs) (n : numbers ≡ map verdict_number (verdicts_of (outcomes o.lengths ns))) (e : ends ≡ ends_from 0 (outcomes o.lengths ns)) where
   abbrev os : List Outcome
-  os = outcomes ks letters
+  os = outcomes o.lengths ns
 
-  numbered : AllNumbered (verdicts_of os)
-  numbered = outcomes_numbered ks letters lengths
+  fine : Ordered o false
+  fine = order_fine o false t
+
+  lengths : Lengths longest o.lengths
+  lengths = Lengths-within fine.lengths (omega arith)
+
+  below : Below letter_kinds ns
+  below = subst (Below letter_kinds) (sym same) (legible-Below cs)
+
+  some : 0 < length o.lengths
+  some = let h = fine in omega arith
 
   -- what is reported from what a walk found is what is reported of the outcomes
-  pub record Reports : Type 0 where
-    pub are : reported_from 0 (take (length ks) verdicts) (take (length ks) ends) letters ≡ map reported os
-    pub reportable : Reportable 0 (take (length ks) verdicts) (take (length ks) ends) letters
+  pub reports_are : reported_from 0 numbers ends ns ≡ map reported os
+  reports_are = rw (n, e) (walk_reports ns 0 os (joined_pieces o.lengths ns some) (outcomes_numbered o.lengths ns lengths))
 
-  pub found_reports : 0 < length ks → Reports
-  found_reports h =
-      record {
-        are = rw (f.numbers, f.places) (walk_reports letters 0 os (joined_pieces ks letters h) numbered);
-        reportable = rw (f.numbers, f.places) (walk_Reportable letters 0 os (omega arith) (joined_pieces ks letters h) numbered (outcomes_name ks letters lengths legible));
-      }
+  pub reportable : Reportable 0 numbers ends ns
+  reportable = rw (n, e) (walk_Reportable ns 0 os (omega arith) (joined_pieces o.lengths ns some) (outcomes_numbered o.lengths ns lengths) (outcomes_name o.lengths ns lengths below))
 
-  -- the arrays have a number and an end for each segment
-  pub numbers_long : length ks ≤ length verdicts
-  numbers_long =
-      let n : length (map verdict_number (verdicts_of os)) ≡ length os = simp length-map in
-      omega (arith, length-take (length ks) verdicts, ap length f.numbers, n, length-outcomes ks letters)
+  -- the most bytes of the lines
+  pub reports_room : length (lines_of os) ≤ most_report
+  reports_room = lines_room o.lengths ns lengths below fine.segments_fit
 
-  pub places_long : length ks ≤ length ends
-  places_long = omega (arith, length-take (length ks) ends, ap length f.places, length_ends 0 os, length-outcomes ks letters)
+  -- a number for each segment
+  pub numbers_count : length numbers ≡ length o.lengths
+  numbers_count = ap length n ∙ numbers_length o t ns
 
-  pub found_at : (i : ℕ) → i < length ks → Stands letters (map reported os) i (get_or verdicts i 0) (start_in ends i) (get_or ends i 0)
-  found_at i h =
-      let r = found_reports (omega arith) in
-      let n : length (take (length ks) verdicts) ≡ length ks = length-take-le (length ks) verdicts numbers_long in
-      let s = stands_at_lem 0 (take (length ks) verdicts) (take (length ks) ends) letters i r.reportable (omega arith) in
-      rw (← r.are, ← get_or-take (length ks) verdicts i 0 h, ← get_or-take (length ks) ends i 0 h, ← start i h) s
-    where
-      start : (j : ℕ) → j < length ks → start_from 0 (take (length ks) ends) j ≡ start_in ends j
-      start zero l = refl
-      start (suc j) l = get_or-take (length ks) ends j 0 (omega arith)
+  -- the segment behind the first i
+  pub found_at : (i : ℕ) → i < length o.lengths → Stands ns (map reported os) i (get_or numbers i 0) (start_in ends i) (get_or ends i 0)
+  found_at i h = rw (← reports_are) (reported_stands numbers ends ns i reportable (omega (arith, numbers_count)))

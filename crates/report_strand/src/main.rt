@@ -2,46 +2,47 @@
 
 #![tactic(auto)]
 
-ghost use Rattle.std.specs.Prelude.{◌≡◌, ◌≤◌, IfErr, IfSome, OnOk, length, take};
+ghost use Rattle.std.specs.Prelude.{◌≡◌, IfErr, IfSome, OnOk, take};
 ghost use Rattle.std.specs.Io.KnownBytes.{Appends};
 ghost use Rattle.console.specs.Streams.{Left};
 ghost use Rattle.code.specs.Order.{order};
-ghost use Rattle.text.specs.Put.{Appended};
+ghost use Rattle.text.specs.Put.{Spare, Grown};
 ghost use Rattle.lines.specs.Report.{most_report};
 ghost use Rattle.report_strand.specs.ReportOutput.{report_text, report_output};
 
-use code::{Checked, Wrote};
-use console::{Failure, put_refused};
+use console::{Failure, Program, put_refused};
 use std::env::Env;
 use std::io;
 use std::process::ExitCode;
+use text::Text;
 use text::lines::{behind, front, line};
 
-// What is reported of letters, for an order, at the front of `out`; the answer is where it ends.
-fn put_report(out: &mut [u8], lengths: &[u16], b: u32, letters: &[u8]) -> usize
-    requires { most_report ≤ length out.old }
-    ensures { let o = order lengths.now b in Appended out.old 0 (report_text o letters.now) out.new result }
+// What is reported of letters, for an order.
+fn put_report(out: &mut Text, lengths: &[u16], b: u32, letters: &[u8])
+    requires { Spare out.old most_report }
+    ensures { let o = order lengths.now b in Grown out.old (report_text o letters.now) out.new }
 {
-    let wrote = report::write(lengths, b, letters, out);
-    match wrote {
-        Wrote::Bytes(n) => n,
-        Wrote::Refused(r) => put_refused(out, 0, r),
+    let mut lines = [0u8; 960];
+    match report::write(lengths, b, letters, &mut lines) {
+        Ok(n) => out.put(front(&lines, n)),
+        Err(r) => put_refused(out, r),
     }
 }
 
-// All that is printed for an input, at the front of `out`; the answer is its length.
-fn output(input: &[u8], out: &mut [u8]) -> usize
-    requires { most_report ≤ length out.old }
-    ensures { take result out.new ≡ report_output input.now }
-{
-    let label = console::order_of(line(input));
-    let tested = label.tested;
-    if let Checked::Refused(r) = tested {
-        return put_refused(out, 0, r);
+struct ReportStrand;
+
+impl Program for ReportStrand {
+    ghost answer = { report_output };
+
+    ghost room = { most_report };
+
+    // All that is printed for an input.
+    fn output(input: &[u8], out: &mut Text) {
+        match console::order_of(line(input)) {
+            Ok(label) => put_report(out, label.lengths(), label.b, line(behind(input))),
+            Err(r) => put_refused(out, r),
+        }
     }
-    let lengths = label.lengths;
-    let count = label.count;
-    put_report(out, &lengths[..count], label.b, line(behind(input)))
 }
 
 // What is printed for all that a reader gives, to a writer. The buffer holds every pair of lines that is taken; a line that it does not hold
@@ -52,20 +53,14 @@ fn run<R: io::Read, W: io::Write>(reader: &mut R, writer: &mut W) -> Result<(), 
     ensures left { IfErr result (λ failure.
         Left failure (R.remaining reader.old) (W.contents writer.old) (W.contents writer.new) (λ input. report_output (take 8192 input))) }
 {
-    let mut input = [0u8; 8192];
-    let n = console::read_input(reader, &mut input).map_err(Failure::Reading)?;
-    let mut out = [0u8; 960];
-    let end = output(front(&input, n), &mut out);
-    console::write_output(writer, front(&out, end)).map_err(Failure::Writing)
+    console::run::<ReportStrand, 8192, 960, _, _>(reader, writer)
 }
 
 fn main(rt: HostRuntime) -> ExitCode {
     let expected =
         b"report_strand takes no arguments. It reads two lines: a label in hexadecimal digits, and a strand in the letters A, T, C, G and N.\n";
     let first = rt.arg(1, &mut [0u8; 1]);
-    let Ok(false) = console::is_wrong_use(first, &mut rt.stderr(), expected) else {
-        return ExitCode::SUCCESS;
-    };
-    let ran = run(&mut rt.stdin(), &mut rt.stdout());
-    console::ended(&mut rt.stderr(), "report_strand", ran)
+    console::start(first, &mut rt.stderr(), "report_strand", expected, || {
+        run(&mut rt.stdin(), &mut rt.stdout())
+    })
 }

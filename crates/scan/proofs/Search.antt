@@ -3,6 +3,7 @@
 --   Turn                         how far the search has come
 --   unmarked, marked             the clean test, by the marker
 --   Compared                     the symbols of a tail that are compared
+use Rattle.std.specs.Prelude as Prelude
 use mathlib.Core.Path.{◌≡◌, refl, sym, ap, subst, ◌∙◌}
 use mathlib.Core.Bool.{Bool, true, false}
 use mathlib.Core.List.{List, ◌∷◌}
@@ -36,7 +37,7 @@ use Rattle.scan.proofs.laws.Scans.{clean_short, letter_from}
 
 -- The starts that are left
 
-module _ (letters : List ℕ) (p n k wide : ℕ) (received : Bool) (f passed : ℕ) where
+module _ (letters : List ℕ) (p n k wide : ℕ) (given : Prelude.Option ℕ) (passed : ℕ) where
   -- the symbols that the letters are read as
   abbrev s : List ℕ
   s = as_symbols letters
@@ -47,7 +48,7 @@ module _ (letters : List ℕ) (p n k wide : ℕ) (received : Bool) (f passed : �
 
   -- the answer of the starts from the i-th on
   unfoldable pub left : ℕ → Next
-  left i = searched received f k passed p (above (drop i about)) letters
+  left i = searched given k passed p (above (drop i about)) letters
 
   -- how far the search has come, `last` being the last start with room: it goes on with the start number `tried`, and then with every one, or with
   -- every second where the others have no room
@@ -69,8 +70,8 @@ module _ (letters : List ℕ) (p n k wide : ℕ) (received : Bool) (f passed : �
     next = rw add-one (drop-cons about i 0 (omega (arith, about_length n wide)) ∙ ap (λ (x : ℕ). x ∷ drop (suc i) about) (about_at n wide i inside ∙ sym is))
 
     -- the clean test at the start, counted from the front
-    test : 0 < o → clean k (letter_before received f (drop p s) o) (drop o (drop p s)) (drop o (drop p letters)) ≡ clean k (letter_before received f s (p + o)) (drop (p + o) s) (drop (p + o) letters)
-    test h = rw (drop-drop o p s, drop-drop o p letters, letter_from received f s p o h)
+    test : 0 < o → clean k (letter_before given (drop p s) o) (drop o (drop p s)) (drop o (drop p letters)) ≡ clean k (letter_before given s (p + o)) (drop (p + o) s) (drop (p + o) letters)
+    test h = rw (drop-drop o p s, drop-drop o p letters, letter_from given s p o h)
 
     -- a start that is not above p
     left_zero : o ≡ 0 → left i ≡ left (i + 1)
@@ -78,21 +79,21 @@ module _ (letters : List ℕ) (p n k wide : ℕ) (received : Bool) (f passed : �
     left_zero e = rw (next, e)
 
     -- a start where no clean segment stands
-    left_pass : 0 < o → clean k (letter_before received f s (p + o)) (drop (p + o) s) (drop (p + o) letters) ≡ false → left i ≡ left (i + 1)
+    left_pass : 0 < o → clean k (letter_before given s (p + o)) (drop (p + o) s) (drop (p + o) letters) ≡ false → left i ≡ left (i + 1)
     unfolding left above first_clean
     left_pass h e = rw (next, lt-ltb 0 o h, test h, e)
 
     -- a start where one stands
-    left_found : 0 < o → clean k (letter_before received f s (p + o)) (drop (p + o) s) (drop (p + o) letters) ≡ true → left i ≡ Clean (p + o) (letter_before received f s (p + o)) passed
+    left_found : 0 < o → clean k (letter_before given s (p + o)) (drop (p + o) s) (drop (p + o) letters) ≡ true → left i ≡ Clean (p + o) (letter_before given s (p + o)) passed
     unfolding left above first_clean
-    left_found h e = rw (next, lt-ltb 0 o h, test h, e) (ap (λ (x : ℕ). Clean (p + o) x passed) (letter_from received f s p o h))
+    left_found h e = rw (next, lt-ltb 0 o h, test h, e) (ap (λ (x : ℕ). Clean (p + o) x passed) (letter_from given s p o h))
 
     -- a start where the letters that stand there, N or not, are no clean segment
     left_unclean : ((g : ℕ) → clean k g (drop (p + o) s) (drop (p + o) letters) ≡ false) → left i ≡ left (i + 1)
     left_unclean h = go (dec_le 1 o)
       where
         go : Dec (1 ≤ o) → left i ≡ left (i + 1)
-        go (yes l) = left_pass l (h (letter_before received f s (p + o)))
+        go (yes l) = left_pass l (h (letter_before given s (p + o)))
         go (no l) = left_zero (omega (arith, lt_of_not-le l))
 
   -- a start with less room than a segment takes
@@ -109,7 +110,7 @@ module _ (letters : List ℕ) (p n k wide : ℕ) (received : Bool) (f passed : �
       go (no l) = let q = lt_of_not-le l in left_end i q ∙ sym (left_end (i + 1) (omega arith))
 
   -- there is no room at all
-  pub none_whole : length letters < p + size true k → searched received f k passed p (window n wide) letters ≡ Nowhere
+  pub none_whole : length letters < p + size true k → searched given k passed p (window n wide) letters ≡ Nowhere
   unfolding left
   none_whole h = left_over (2 * wide + 1) (λ j l. omega arith) ∙ left_end (2 * wide + 1) (omega arith)
 
@@ -126,18 +127,18 @@ module _ (letters : List ℕ) (p n k wide : ℕ) (received : Bool) (f passed : �
           let over = left_over (2 * (n - last) - 1) (λ j q. omega (arith, r, tried_above n last j q)) in
           rw (lt-ltb last n l) (begun (2 * (n - last) - 1) over (omega arith) (omega arith))
 
-module _ {letters : List ℕ} {p n k wide : ℕ} {received : Bool} {f passed last tried step : ℕ} (t : Turn letters p n k wide received f passed last tried step) where
+module _ {letters : List ℕ} {p n k wide : ℕ} {given : Prelude.Option ℕ} {passed last tried step : ℕ} (t : Turn letters p n k wide given passed last tried step) where
   -- all starts are tried
-  pub turn_end : 2 * wide < tried → searched received f k passed p (window n wide) letters ≡ Nowhere
+  pub turn_end : 2 * wide < tried → searched given k passed p (window n wide) letters ≡ Nowhere
   unfolding left
-  turn_end h = t.same ∙ left_end letters p n k wide received f passed tried h
+  turn_end h = t.same ∙ left_end letters p n k wide given passed tried h
 
   module _ (inside : tried ≤ 2 * wide) (fits : wide ≤ n) where
     -- the start is passed over
-    on : left letters p n k wide received f passed tried ≡ left letters p n k wide received f passed (tried + 1) → Turn letters p n k wide received f passed last (tried + step) step
+    on : left letters p n k wide given passed tried ≡ left letters p n k wide given passed (tried + 1) → Turn letters p n k wide given passed last (tried + step) step
     on h = go (dec_le step 1)
       where
-        go : Dec (step ≤ 1) → Turn letters p n k wide received f passed last (tried + step) step
+        go : Dec (step ≤ 1) → Turn letters p n k wide given passed last (tried + step) step
         go (yes l) =
             let e : step ≡ 1 = omega (arith, t.least) in
             rw e (record { room = t.room; same = t.same ∙ h; low = omega (arith, t.low); few = omega arith; least = omega arith; most = omega arith; second = λ q. absurd (omega arith) })
@@ -145,16 +146,16 @@ module _ {letters : List ℕ} {p n k wide : ℕ} {received : Bool} {f passed las
             let e : step ≡ 2 = omega (arith, t.most, lt_of_not-le l) in
             let o = t.second e in
             let u : tried + 1 + 1 ≡ tried + 2 = omega arith in
-            let past = left_past letters p n k wide received f passed (tried + 1) (omega arith) (omega (arith, t.room, tried_even n (tried + 1) (omega arith))) in
-            rw e (record { room = t.room; same = t.same ∙ (h ∙ (past ∙ ap (left letters p n k wide received f passed) u)); low = omega (arith, t.low); few = omega arith; least = omega arith; most = omega arith; second = λ q. (omega arith, omega arith) })
+            let past = left_past letters p n k wide given passed (tried + 1) (omega arith) (omega (arith, t.room, tried_even n (tried + 1) (omega arith))) in
+            rw e (record { room = t.room; same = t.same ∙ (h ∙ (past ∙ ap (left letters p n k wide given passed) u)); low = omega (arith, t.low); few = omega arith; least = omega arith; most = omega arith; second = λ q. (omega arith, omega arith) })
 
     -- it has no room: of the later ones, neither has every second
-    pub Turn-past : last < tried_at n tried → Turn letters p n k wide received f passed last (tried + step) 2
+    pub Turn-past : last < tried_at n tried → Turn letters p n k wide given passed last (tried + step) 2
     Turn-past h =
         let even : tried % 2 ≡ 0 = tried_behind_lem n last tried t.low h in
         let e : step ≡ 1 = go (dec_le step 1) even in
         let z = tried_even n tried even in
-        rw e (record { room = t.room; same = t.same ∙ left_past letters p n k wide received f passed tried inside (omega (arith, t.room)); low = omega (arith, t.low); few = omega arith; least = omega arith; most = omega arith; second = λ q. (omega arith, omega arith) })
+        rw e (record { room = t.room; same = t.same ∙ left_past letters p n k wide given passed tried inside (omega (arith, t.room)); low = omega (arith, t.low); few = omega arith; least = omega arith; most = omega arith; second = λ q. (omega arith, omega arith) })
       where
         go : Dec (step ≤ 1) → tried % 2 ≡ 0 → step ≡ 1
         go (yes l) z = omega (arith, t.least)
@@ -163,25 +164,25 @@ module _ {letters : List ℕ} {p n k wide : ℕ} {received : Bool} {f passed las
     -- the start is o
     module _ (o : ℕ) (is : o ≡ tried_at n tried) where
       -- it is not above p
-      pub Turn-zero : o ≡ 0 → Turn letters p n k wide received f passed last (tried + step) step
-      Turn-zero e = on (left_zero letters p n k wide received f passed tried inside o is e)
+      pub Turn-zero : o ≡ 0 → Turn letters p n k wide given passed last (tried + step) step
+      Turn-zero e = on (left_zero letters p n k wide given passed tried inside o is e)
 
       -- no clean segment stands there, whatever stands before it
-      pub Turn-unclean : ((g : ℕ) → clean k g (drop (p + o) (as_symbols letters)) (drop (p + o) letters) ≡ false) → Turn letters p n k wide received f passed last (tried + step) step
-      Turn-unclean h = on (left_unclean letters p n k wide received f passed tried inside o is h)
+      pub Turn-unclean : ((g : ℕ) → clean k g (drop (p + o) (as_symbols letters)) (drop (p + o) letters) ≡ false) → Turn letters p n k wide given passed last (tried + step) step
+      Turn-unclean h = on (left_unclean letters p n k wide given passed tried inside o is h)
 
       module _ (above : 0 < o) where
         abbrev here : Bool
-        here = clean k (letter_before received f (as_symbols letters) (p + o)) (drop (p + o) (as_symbols letters)) (drop (p + o) letters)
+        here = clean k (letter_before given (as_symbols letters) (p + o)) (drop (p + o) (as_symbols letters)) (drop (p + o) letters)
 
         -- no clean segment stands there
-        pub Turn-pass : here ≡ false → Turn letters p n k wide received f passed last (tried + step) step
-        Turn-pass e = on (left_pass letters p n k wide received f passed tried inside o is above e)
+        pub Turn-pass : here ≡ false → Turn letters p n k wide given passed last (tried + step) step
+        Turn-pass e = on (left_pass letters p n k wide given passed tried inside o is above e)
 
         -- one stands there
-        pub turn_found : here ≡ true → searched received f k passed p (window n wide) letters ≡ Clean (p + o) (letter_before received f (as_symbols letters) (p + o)) passed
+        pub turn_found : here ≡ true → searched given k passed p (window n wide) letters ≡ Clean (p + o) (letter_before given (as_symbols letters) (p + o)) passed
         unfolding left
-        turn_found e = t.same ∙ left_found letters p n k wide received f passed tried inside o is above e
+        turn_found e = t.same ∙ left_found letters p n k wide given passed tried inside o is above e
 
 -- The clean test at a place, by what was looked at
 

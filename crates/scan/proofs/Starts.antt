@@ -1,4 +1,6 @@
 -- A start that the search found: it is clean, inside the strand and above P; and what the answer of a search tells.
+use Rattle.std.specs.Prelude as Prelude
+use Rattle.std.specs.Prelude.{IfSome}
 use mathlib.Core.Path.{◌≡◌, refl, sym, ◌∙◌}
 use mathlib.Core.Bool.{Bool, true, false, cond, true≢false}
 use mathlib.Core.List.{List, [], ◌∷◌}
@@ -50,15 +52,15 @@ first_inside k g s letters os same o e = omega (arith, clean_inside k (g o) s le
 
 -- The answer of a search
 
-module _ (received : Bool) (f k passed p : ℕ) (os letters : List ℕ) where
+module _ (given : Prelude.Option ℕ) (k passed p : ℕ) (os letters : List ℕ) where
   abbrev S : List ℕ
   S = drop p (as_symbols letters)
 
   abbrev g : ℕ → ℕ
-  g = letter_before received f S
+  g = letter_before given S
 
   -- the start that it names
-  pub searched_start : start_of (searched received f k passed p os letters) ≡ start_from passed p g (first_clean k g S (drop p letters) os)
+  pub searched_start : start_of (searched given k passed p os letters) ≡ start_from passed p g (first_clean k g S (drop p letters) os)
   searched_start = go (first_clean k g S (drop p letters) os)
     where
       go : (x : Option ℕ) → start_of (clean_from passed p g x) ≡ start_from passed p g x
@@ -66,7 +68,7 @@ module _ (received : Bool) (f k passed p : ℕ) (os letters : List ℕ) where
       go none = refl
 
   -- what holds of it, k being the length behind those that are passed
-  pub searched-Known : f < 4 → p ≤ length letters → (ks later : List ℕ) → drop passed ks ≡ k ∷ later → Known (as_symbols letters) letters ks (searched received f k passed p os letters)
+  pub searched-Known : IfSome given (λ f. f < 4) → p ≤ length letters → (ks later : List ℕ) → drop passed ks ≡ k ∷ later → Known (as_symbols letters) letters ks (searched given k passed p os letters)
   searched-Known symbol inside ks later e = go (first_clean k g S (drop p letters) os) refl
     where
       from : length S ≡ length (drop p letters)
@@ -76,4 +78,4 @@ module _ (received : Bool) (f k passed p : ℕ) (os letters : List ℕ) where
       go none q = tt
       go (some o) q =
           let l = first_inside k g S (drop p letters) os from o q in
-          (record { inside = omega (arith, l, length-drop p (as_symbols letters), length_as letters); symbol = letter_below received f S (Below-drop p (as_symbols letters) (as_Below letters)) symbol o }, rw (e, ← drop-drop o p (as_symbols letters), ← drop-drop o p letters) (clean_first k g S (drop p letters) os o q))
+          (record { inside = omega (arith, l, length-drop p (as_symbols letters), length_as letters); symbol = letter_below given S (Below-drop p (as_symbols letters) (as_Below letters)) symbol o }, rw (e, ← drop-drop o p (as_symbols letters), ← drop-drop o p letters) (clean_first k g S (drop p letters) os o q))

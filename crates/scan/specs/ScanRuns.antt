@@ -1,5 +1,6 @@
 -- Runs of the search about a place n, for a clean segment of the message 0 0 behind f = 0, each with the start that it finds.
-use Rattle.std.specs.Prelude.{Bool, true, false, ◌&&◌, List, [], ◌∷◌, ◌++◌, ℕ, eqb, replicate}
+use Rattle.std.specs.Prelude as Prelude
+use Rattle.std.specs.Prelude.{Bool, true, false, Some, None, ◌&&◌, List, [], ◌∷◌, ◌++◌, ℕ, eqb, replicate}
 use Rattle.std.proofs.Math.Option.{Option, some, none}
 use Rattle.code.specs.Ascii.{digits}
 use Rattle.code.specs.Symbols.{as_symbols}
@@ -15,10 +16,15 @@ abbrev number_of : Option ℕ → ℕ
 number_of (some o) = o
 number_of none = 0
 
+-- the symbol that is given before a start, or none
+abbrev given : Bool → ℕ → Prelude.Option ℕ
+given true f = None
+given false f = Some f
+
 unfoldable pub right : Run → Bool
 right (gives received f n wide letters start) =
     let s = as_symbols letters in
-    eqb (number_of (first_clean 2 (letter_before received f s) s letters (window n wide))) start
+    eqb (number_of (first_clean 2 (letter_before (given received f) s) s letters (window n wide))) start
 
 -- eight symbols 0, the marker 2 2, the message, and what stands behind it
 abbrev pub strand : List ℕ → List ℕ

@@ -9,7 +9,8 @@
 --   start_from      a start counted from a place
 --   next_place      the place of the start that an answer names
 --   Known           what holds of the start that an answer names
-use Rattle.std.specs.Prelude.{◌≡◌, Bool, true, cond, List, [], ◌∷◌, ℕ, ◌+◌, ◌-◌, ◌*◌, ltb, get_or, drop}
+use Rattle.std.specs.Prelude as Prelude
+use Rattle.std.specs.Prelude.{◌≡◌, true, cond, Some, None, List, [], ◌∷◌, ℕ, ◌+◌, ◌-◌, ◌*◌, ltb, get_or, drop}
 use Rattle.std.proofs.Math.Option.{Option, some, none}
 use Rattle.code.specs.Symbols.{as_symbols}
 use Rattle.code.specs.Bounds.{Start}
@@ -23,9 +24,10 @@ unfoldable pub first_clean : ℕ → (ℕ → ℕ) → List ℕ → List ℕ →
 first_clean k g s letters [] = none
 first_clean k g s letters (o ∷ os) = cond (clean k (g o) (drop o s) (drop o letters)) (some o) (first_clean k g s letters os)
 
--- the symbol before the start o: the received one, or f
-unfoldable pub letter_before : Bool → ℕ → List ℕ → ℕ → ℕ
-letter_before received f s o = cond received (get_or s (o - 1) 0) f
+-- the symbol before the start o: the given one, or the received one
+unfoldable pub letter_before : Prelude.Option ℕ → List ℕ → ℕ → ℕ
+letter_before None s o = get_or s (o - 1) 0
+letter_before (Some f) s o = f
 
 -- the try for a start that is found, or else another answer
 abbrev pub try_from : ℕ → ℕ → Option ℕ → Option Try → Option Try
@@ -42,9 +44,9 @@ clean_from passed p g (some o) = Clean (p + o) (g o) passed
 clean_from passed p g none = Nowhere
 
 -- the first of the starts os, counted from p, where a clean segment of k message symbols stands in the letters
-abbrev pub searched : Bool → ℕ → ℕ → ℕ → ℕ → List ℕ → List ℕ → Next
-searched received f k passed p os letters =
-    let s = drop p (as_symbols letters) in let g = letter_before received f s in clean_from passed p g (first_clean k g s (drop p letters) os)
+abbrev pub searched : Prelude.Option ℕ → ℕ → ℕ → ℕ → List ℕ → List ℕ → Next
+searched given k passed p os letters =
+    let s = drop p (as_symbols letters) in let g = letter_before given s in clean_from passed p g (first_clean k g s (drop p letters) os)
 
 -- where reading goes on: how many segments are passed, the place of the start, and the symbol before it
 pub record Ahead : Type 0 where

@@ -32,9 +32,7 @@ fn put_pairs(high: usize, low: usize, t: usize, out: &mut [u8], at: usize)
 {
     let mut h = high;
     let mut l = low;
-    let mut i = t;
-    while 0 < i {
-        i -= 1;
+    for i in (0..t).rev() {
         out[at + i] = (2 * (h & 1) + (l & 1)) as u8;
         h >>= 1;
         l >>= 1;
@@ -76,10 +74,7 @@ pub fn write_segment(marked: bool, f: u8, message: &[u8], out: &mut [u8], at: us
 pub fn data_at(marked: bool) -> usize
     ensures { (result ≡ data_at marked) × (result ≤ 2) }
 {
-    if marked {
-        return 2;
-    }
-    0
+    if marked { 2 } else { 0 }
 }
 
 // The length of a segment of k message symbols.
@@ -87,9 +82,5 @@ pub fn size_of(marked: bool, k: usize) -> usize
     requires { (0 < k) × (k ≤ longest) }
     ensures { result ≡ size marked k }
 {
-    let n = k + (4 + layers::width_of(k));
-    if marked {
-        return 2 + n;
-    }
-    n
+    data_at(marked) + (k + (4 + layers::width_of(k)))
 }

@@ -2,7 +2,7 @@
 --   marks_step   one more mark is written
 --   marks_all    all marks are written
 --   sheet_step   one more byte of a sheet is written
---   Counting     how many of the first marks are n, with its begin, its step and its end
+--   Counting     how many of the first marks are n, with its step and its end
 use mathlib.Core.Path.{◌≡◌, refl}
 use mathlib.Core.Bool.{Bool, true, false, cond}
 use mathlib.Core.List.{List, [], ◌∷◌, ◌++◌, append-nil, map}
@@ -55,9 +55,6 @@ pub record Counting (n : ℕ) (m : List ℕ) (i count : ℕ) : Type 0 where
   pub rest : count + count_of n (drop i m) ≡ count_of n m
 
 module _ (n : ℕ) (m : List ℕ) where
-  pub count_begin : Counting n m 0 0
-  count_begin = record { few = omega arith; rest = omega arith }
-
   -- one more mark is counted
   pub count_next : (i count : ℕ) → i < length m → Counting n m i count → Counting n m (i + 1) (count + bool_byte (eqb (get_or m i 0) n))
   unfolding count_of

@@ -3,7 +3,6 @@
 --   mask_kind     the kind of a number
 --   mask_symbol   its symbol
 --   bit_below     a condition as a number is 0 or 1
---   bits_fit      the sum of two such numbers is a byte
 --   kind_mark     the mark of a kind, as a sum
 --   kind_rest     the kinds from 6 on
 use mathlib.Core.Path.{◌≡◌, refl, ◌∙◌}
@@ -13,8 +12,7 @@ use native.Mathlib.Omega.{arith}
 use borrow.Author.Tests.{lt-ltb}
 use lib.Bits.{bit_and, bit_or, and_mask, or_shifted_r}
 use lib.Dec.{ltb}
-use mir.Syntax.{w8}
-use mir.Val.{bool_byte, Fits}
+use mir.Val.{bool_byte}
 use Rattle.code.specs.declared.Verdict.TheVariants.{NoStart}
 use Rattle.code.specs.Bounds.{reach}
 use Rattle.code.specs.Verdicts.{numbered, verdict_of_kind}
@@ -39,9 +37,6 @@ mask_symbol n = and_mask n 4
 pub bit_below : (b : Bool) → bool_byte b < 2
 bit_below true = omega arith
 bit_below false = omega arith
-
-pub bits_fit : (a b : Bool) → Fits w8 (bool_byte a + bool_byte b)
-bits_fit a b = omega (arith, bit_below a, bit_below b)
 
 -- the mark of a kind, as a sum
 pub kind_mark : (kind x i : ℕ) → bool_byte (ltb 0 kind) + bool_byte (ltb 4 kind) ≡ mark_of (verdict_of_kind kind x i)

@@ -9,7 +9,7 @@ ghost use Rattle.code.specs.Bounds.{reach};
 ghost use Rattle.code.specs.Verdicts.{numbered, verdict_number, verdict_of, Numbered};
 ghost use Rattle.code.specs.Sheet.{mark_of, marks_of, sheet_of, counts_of, sheet_bytes};
 
-use code::{Counted, Edit, Verdict};
+use code::{Counts, Edit, Verdict};
 
 // A kind of verdict in three bits, a symbol or a step in four, and a place.
 fn joined(kind: u32, x: u8, i: usize) -> u32
@@ -60,7 +60,7 @@ fn mark_of(n: u32) -> u8
     ensures { result ≡ mark_of (verdict_of n) }
 {
     let kind = n & 7;
-    (0 < kind) as u8 + (4 < kind) as u8
+    u8::from(0 < kind) + u8::from(4 < kind)
 }
 
 // The marks of verdicts.
@@ -68,10 +68,8 @@ pub fn marks_of(verdicts: &[u32], marks: &mut [u8])
     requires { length marks.old ≡ length verdicts.now }
     ensures { marks.new ≡ marks_of (map verdict_of verdicts.now) }
 {
-    let mut i = 0;
-    while i < verdicts.len() {
+    for i in 0..verdicts.len() {
         marks[i] = mark_of(verdicts[i]);
-        i += 1;
     }
 }
 
@@ -80,17 +78,14 @@ pub fn sheet_bytes(l: usize) -> usize
     requires { l ≤ most_segments }
     ensures { result ≡ sheet_bytes l }
 {
-    (l + 3) / 4
+    l.div_ceil(4)
 }
 
 // The mark at a place; 0 past the end.
 fn mark_at(marks: &[u8], i: usize) -> u8
     ensures { result ≡ get_or marks.now i 0 }
 {
-    if i < marks.len() {
-        return marks[i];
-    }
-    0
+    marks.get(i).copied().unwrap_or(0)
 }
 
 // The sheet of marks at the front of `out`: the first mark in a byte's highest two bits, spare bits zero.
@@ -99,34 +94,32 @@ pub fn pack_sheet(marks: &[u8], out: &mut [u8])
     requires room { (length marks.now ≤ most_segments) × (sheet_bytes (length marks.now) ≤ length out.old) }
     ensures { out.new ≡ sheet_of marks.now ++ drop (sheet_bytes (length marks.now)) out.old }
 {
-    let n = sheet_bytes(marks.len());
-    let mut i = 0;
-    while i < n {
+    for i in 0..sheet_bytes(marks.len()) {
         let j = 4 * i;
         let a = mark_at(marks, j);
         let b = mark_at(marks, j + 1);
         let c = mark_at(marks, j + 2);
         let d = mark_at(marks, j + 3);
         out[i] = packing::pack4(a, b, c, d);
-        i += 1;
     }
 }
 
 // How many marks are clean, corrected and lost.
-pub fn counts_of(marks: &[u8]) -> Counted
+pub fn counts_of(marks: &[u8]) -> Counts
     requires { length marks.now ≤ most_segments }
     ensures { result ≡ counts_of marks.now }
 {
     let mut clean: u32 = 0;
     let mut corrected: u32 = 0;
     let mut lost: u32 = 0;
-    let mut i = 0;
-    while i < marks.len() {
-        let mark = marks[i];
-        clean += (mark == 0) as u32;
-        corrected += (mark == 1) as u32;
-        lost += (mark == 2) as u32;
-        i += 1;
+    for &mark in marks {
+        clean += u32::from(mark == 0);
+        corrected += u32::from(mark == 1);
+        lost += u32::from(mark == 2);
     }
-    Counted::Counts(clean, corrected, lost)
+    Counts {
+        clean,
+        corrected,
+        lost,
+    }
 }

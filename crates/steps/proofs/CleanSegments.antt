@@ -1,6 +1,6 @@
 -- A written segment in its place: what reading it answers, and what stands in its parts.
 --   known_read_message, known_read  it is read, where another follows it or nothing does
---   M-*                             the parts of a segment that stands at p
+--   M-*                             the parts of a segment that stands at a start
 --   stands_step                     its step, where another follows it or nothing does
 --   clean_Message                   its message, in a buffer
 --   clean_stands                    a segment that is known to be clean stands
@@ -13,7 +13,7 @@ use native.Mathlib.Omega.{arith}
 use lib.ListN.{length, get_or, take, drop, length-drop, length-append}
 use lib.Seq.{drop-drop, take_at, get_or-take, get_or-drop, length-take-le}
 use Rattle.code.specs.Symbols.{Below, as_symbols}
-use Rattle.code.proofs.laws.Letters.{length_as}
+use Rattle.code.proofs.laws.Letters.{as_length}
 use Rattle.code.specs.Layers.{width}
 use Rattle.code.specs.Segment.{check, separator, syndrome_of, block, segment, last_of, size, data_at}
 use Rattle.code.proofs.laws.Below.{Below-take, Below-drop}
@@ -27,13 +27,15 @@ use Rattle.code.specs.declared.Edit.TheVariants.{None}
 use Rattle.tail.specs.declared.Tail.{Tail}
 use Rattle.tail.specs.Tails.{mark, IsTail}
 use Rattle.tail.proofs.Tails.{marked_block}
-use Rattle.message.specs.declared.MessageResult.TheVariants.{Message}
+use Rattle.std.specs.Prelude.{Ok}
 use Rattle.message.specs.MessageAnswers.{IsMessageResult}
 use Rattle.clean.proofs.Segment.{size_data}
 use Rattle.scan.specs.Scans.{ahead}
 use Rattle.scan.proofs.laws.Scans.{clean_in_symbols}
 use Rattle.scan.proofs.Starts.{clean_inside}
-use Rattle.steps.specs.Steps.{step_at, standing_answer, IsStep}
+use Rattle.steps.specs.declared.strand.Strand.{Strand}
+use Rattle.steps.specs.declared.strand.Start.{Start}
+use Rattle.steps.specs.Steps.{message_from, step_from, standing_answer, CleanAt, IsStep}
 use Rattle.steps.proofs.Answers.{gives_read}
 
 -- a segment and what follows it
@@ -48,10 +50,25 @@ no_more : (r : List ℕ) → length r ≡ 0 → r ≡ []
 no_more [] e = refl
 no_more (x ∷ r) e = absurd (omega arith)
 
--- the segment of the k symbols at d stands at p
-module _ (marked : Bool) (f k p d : ℕ) (s : List ℕ) (two : 2 ≤ k) (small : Below 4 s) (behind : d ≡ p + data_at marked) (room : d + k ≤ length s) (stands : is_prefix (segment marked f (take k (drop (data_at marked) (drop p s)))) (drop p s) ≡ true) where
+-- the segment of the k symbols at d stands at a start
+module _ (strand : Strand) (start : Start) (k d : ℕ) (two : 2 ≤ k) (behind : d ≡ start.at + data_at start.marked) (room : d + k ≤ length strand.symbols.now) (stands : is_prefix (segment start.marked start.before (take k (drop (data_at start.marked) (drop start.at strand.symbols.now)))) (drop start.at strand.symbols.now) ≡ true) where
+  abbrev marked : Bool
+  marked = start.marked
+
+  abbrev f : ℕ
+  f = start.before
+
+  abbrev p : ℕ
+  p = start.at
+
+  abbrev s : List ℕ
+  s = strand.symbols.now
+
   abbrev S : List ℕ
   S = drop p s
+
+  small : Below 4 s
+  small = strand.received.symbols
 
   -- its message
   abbrev M : List ℕ
@@ -114,26 +131,38 @@ module _ (marked : Bool) (f k p d : ℕ) (s : List ℕ) (two : 2 ≤ k) (small :
       rw n (sym (get_or-drop (d + k + 4) s (width k - 1) 0) ∙ (sym (get_or-take (width k) (drop (d + k + 4) s) (width k - 1) 0 (omega arith)) ∙ (ap (λ (l : List ℕ). get_or l (width k - 1) 0) m_syndrome ∙ ap (λ (i : ℕ). get_or (syndrome_of M) (width i - 1) 0) (sym m_long))))
 
   -- another follows it, or nothing
-  pub stands_step : (letters : List ℕ) → length s ≡ length letters → (ks : List ℕ) → (ks ≡ [] → d + k + (4 + width k) ≡ length s) → (out : List ℕ) → out ≡ M → IsStep (step_at marked f k ks p s letters) s letters ks out (standing_answer k d s)
-  stands_step letters same ks ends out e =
+  pub stands_step : (ks : List ℕ) → (ks ≡ [] → d + k + (4 + width k) ≡ length s) → (out : List ℕ) → out ≡ M → IsStep (step_from strand start k ks) strand ks out (standing_answer k d s)
+  stands_step ks ends out e =
       let end = d + k + (4 + width k) in
-      gives_read marked f k ks p s letters M out None (size marked k) end (standing_answer k d s) (known_read marked f k S M rest m_whole m_long two m_small ks (drop p letters) (fin ks ends) (simp length-drop (omega arith))) e refl (ap (λ (x : ℕ). some (ahead 0 end x)) m_last) (omega (arith, size_data marked k)) (record { inside = m_inside; symbol = small (end - 1) })
+      gives_read strand start ks k M out None (size marked k) end (standing_answer k d s) (known_read marked f k S M rest m_whole m_long two m_small ks (drop p strand.letters.now) (fin ks ends) (simp length-drop (omega (arith, as_length _ _ strand.read)))) e refl (ap (λ (x : ℕ). some (ahead 0 end x)) m_last) (omega (arith, size_data marked k)) (record { inside = m_inside; symbol = small (end - 1) })
     where
       fin : (ks : List ℕ) → (ks ≡ [] → d + k + (4 + width k) ≡ length s) → Final ks rest
       fin [] h q = no_more rest (simp length-drop (omega (arith, h refl, m_size)))
       fin (x ∷ ks) h q = absurd (cons≢nil q)
 
   -- its message is read
-  pub clean_Message : (out : List ℕ) → out ≡ M → (t : Tail) → IsTail out t → IsMessageResult (read_message marked (length out) S) out (Message t)
+  pub clean_Message : (out : List ℕ) → out ≡ M → (t : Tail) → IsTail out t → IsMessageResult (message_from strand start (length out)) out (Ok t)
   clean_Message out e t h =
       let n : length out ≡ k = ap length e ∙ m_long in
       let g : read_message marked (length out) S ≡ message out = ap (λ (i : ℕ). read_message marked i S) n ∙ (known_read_message marked f k S M rest m_whole m_long two m_small ∙ ap message (sym e)) in
-      subst (λ (x : R.MessageResult). IsMessageResult x out (Message t)) (sym g) (refl, h, subst (Below 4) (sym e) m_small)
+      subst (λ (x : R.MessageResult). IsMessageResult x out (Ok t)) (sym g) (refl, h, subst (Below 4) (sym e) m_small)
+
+-- a segment that is clean in letters is clean in the symbols that they are read as
+own_clean : (k f p : ℕ) (s letters : List ℕ) → s ≡ as_symbols letters → R.clean k f (drop p s) (drop p letters) ≡ true → R.clean k f (drop p s) (drop p s) ≡ true
+own_clean k f p s letters read e = rw read (clean_in_symbols k f letters p (rw read at e))
 
 -- a segment that is known to be clean stands
-pub clean_stands : (k f p : ℕ) (s letters : List ℕ) → s ≡ as_symbols letters → R.clean k f (drop p s) (drop p letters) ≡ true → (is_prefix (segment true f (take k (drop 2 (drop p s)))) (drop p s) ≡ true) × (p + 2 + k ≤ length s)
+pub clean_stands : (strand : Strand) (start : Start) (k : ℕ) → CleanAt strand start k → (is_prefix (segment start.marked start.before (take k (drop (data_at start.marked) (drop start.at strand.symbols.now)))) (drop start.at strand.symbols.now) ≡ true) × (start.at + 2 + k ≤ length strand.symbols.now)
 unfolding R.clean
-clean_stands k f p s letters read e =
-    let same : length s ≡ length letters = ap length read ∙ length_as letters in
-    let own : R.clean k f (drop p s) (drop p s) ≡ true = rw read (clean_in_symbols k f letters p (rw read at e)) in
-    (own, omega (arith, clean_inside k f s letters same p e, size_data true k))
+clean_stands strand start k e =
+    let s = strand.symbols.now in
+    let letters = strand.letters.now in
+    let p = start.at in
+    let f = start.before in
+    let same : length s ≡ length letters = as_length s letters strand.read in
+    let own : R.clean k f (drop p s) (drop p s) ≡ true = own_clean k f p s letters strand.read e.1 in
+    (subst (λ (b : Bool). is_prefix (segment b f (take k (drop (data_at b) (drop p s)))) (drop p s) ≡ true) (sym e.0) own, omega (arith, clean_inside k f s letters same p e.1, size_data true k))
+
+-- its message starts behind the marker
+pub clean_data : (strand : Strand) (start : Start) (k : ℕ) → CleanAt strand start k → start.at + 2 ≡ start.at + data_at start.marked
+clean_data strand start k e = ap (λ (b : Bool). start.at + data_at b) (sym e.0)

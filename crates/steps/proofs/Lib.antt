@@ -6,4 +6,3 @@ pub mod Step10
 pub mod Answers
 pub mod Answered
 pub mod CleanSegments
-pub mod Starts

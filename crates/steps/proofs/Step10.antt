@@ -6,6 +6,7 @@
 --   sought_found  a segment stands
 --   Sought-on     none stands: the one behind it is sought
 --   sought_end    no segment is left
+use Rattle.std.specs.Prelude.{None}
 use mathlib.Core.Path.{◌≡◌, refl, sym, ap, subst, ◌∙◌}
 use mathlib.Core.Bool.{Bool, true, false, cond}
 use mathlib.Core.List.{List, [], ◌∷◌, map}
@@ -14,9 +15,9 @@ use Prim.Native.Nat.{ℕ, zero, suc, ◌+◌, ◌-◌, ◌*◌, ◌<◌, ◌≤�
 use native.Mathlib.Omega.{arith}
 use lib.Dec.{ltb}
 use lib.ListN.{length, get_or, drop, length-drop}
-use lib.Seq.{drop-drop}
+use Rattle.std.proofs.lemmas.List.{drop_all, drop_more}
 use Rattle.code.specs.Symbols.{as_symbols}
-use Rattle.code.proofs.laws.Letters.{length_as}
+use Rattle.code.proofs.laws.Letters.{as_length, length_as}
 use Rattle.code.specs.Limits.{most_letters}
 use Rattle.code.specs.Bounds.{longest, Length}
 use Rattle.code.proofs.laws.Layers.{width-Least}
@@ -30,7 +31,9 @@ use Rattle.scan.specs.declared.Next.TheVariants.{Clean, Nowhere}
 use Rattle.scan.specs.Scans.{first_clean, letter_before, try_from, clean_from, searched, start_of, Known}
 use Rattle.scan.proofs.laws.Scans.{clean_short, window_first}
 use Rattle.scan.proofs.Starts.{size_room, searched_start, searched-Known}
-use Rattle.steps.specs.Steps.{lost_at}
+use Rattle.steps.specs.declared.strand.Strand.{Strand}
+use Rattle.steps.specs.declared.strand.Start.{Start}
+use Rattle.steps.specs.Steps.{lost_at, AtStart}
 
 -- Starts without room
 
@@ -78,44 +81,59 @@ pub size_marked : (k : ℕ) → Length k → (10 ≤ size true k) × (size true 
 unfolding size
 size_marked k h = (omega (arith, width_two k h.0), omega (arith, (width-Least k).least 16 (omega arith)))
 
--- a segment of k message symbols was lost at p, and the lengths `rest` follow; `passed` of them are passed, those left are `later`, and the next is
--- sought about `centre`
-pub record Sought (letters : List ℕ) (p : ℕ) (marked : Bool) (k : ℕ) (rest : List ℕ) (centre passed : ℕ) (later : List ℕ) : Type 0 where
-  pub same : scan (size marked k) rest (drop p (as_symbols letters)) (drop p letters) ≡ first_standing (drop p (as_symbols letters)) (drop p letters) (tries passed centre later)
-  pub left : drop passed rest ≡ later
-  pub lengths : Lengths longest later
+-- a segment of k message symbols was lost at a start, and the lengths `rest` follow; `passed` of them are passed, and the next is sought about `centre`
+pub record Sought (strand : Strand) (start : Start) (k : ℕ) (rest : List ℕ) (centre passed : ℕ) : Type 0 where
+  pub same : scan (size start.marked k) rest (drop start.at (as_symbols strand.letters.now)) (drop start.at strand.letters.now) ≡ first_standing (drop start.at (as_symbols strand.letters.now)) (drop start.at strand.letters.now) (tries passed centre (drop passed rest))
+  pub lengths : Lengths longest (drop passed rest)
   pub far : 10 * passed + 8 ≤ centre
   pub near : centre ≤ most_letters + 300 + 8 * passed
 
-pub Sought-begin : (letters : List ℕ) (p : ℕ) (marked : Bool) (k : ℕ) (rest : List ℕ) → Length k → Lengths longest rest → (n : ℕ) → n ≡ size marked k → Sought letters p marked k rest n 0 rest
+pub Sought-begin : (strand : Strand) (start : Start) (k : ℕ) (rest : List ℕ) → AtStart strand start rest k → (n : ℕ) → n ≡ size start.marked k → Sought strand start k rest n 0
 unfolding scan
-Sought-begin letters p marked k rest l ls n e = let r = size_room marked k l in record { same = rw e; left = refl; lengths = ls; far = omega (arith, r.0); near = omega (arith, r.1) }
+Sought-begin strand start k rest g n e = let r = size_room start.marked k g.message in record { same = rw e; lengths = g.behind; far = omega (arith, r.0); near = omega (arith, r.1) }
 
-module _ {letters : List ℕ} {p : ℕ} {marked : Bool} {k : ℕ} {rest : List ℕ} {centre passed : ℕ} {later : List ℕ} (t : Sought letters p marked k rest centre passed later) (inside : p ≤ length letters) where
-  -- what is answered of the scan
-  abbrev Answered : Next → Type 0
-  Answered r = (start_of r ≡ (lost_at marked k rest p (as_symbols letters) letters 0).next) × Known (as_symbols letters) letters rest r
+module _ {strand : Strand} {start : Start} {k : ℕ} {rest : List ℕ} {centre passed : ℕ} (t : Sought strand start k rest centre passed) (g : AtStart strand start rest k) where
+  abbrev p : ℕ
+  p = start.at
 
-  found_none : scan (size marked k) rest (drop p (as_symbols letters)) (drop p letters) ≡ none → Answered Nowhere
+  abbrev letters : List ℕ
+  letters = strand.letters.now
+
+  inside : p ≤ length letters
+  inside = omega (arith, g.inside, as_length _ _ strand.read)
+
+  -- what is answered of the scan, where the letters are read as s
+  abbrev Answered : List ℕ → Next → Type 0
+  Answered s r = (start_of r ≡ (lost_at start.marked k rest p s letters 0).next) × Known s letters rest r
+
+  answered : (r : Next) → Answered (as_symbols letters) r → Answered strand.symbols.now r
+  answered r a = subst (λ (s : List ℕ). Answered s r) (sym strand.read) a
+
+  found_none : scan (size start.marked k) rest (drop p (as_symbols letters)) (drop p letters) ≡ none → Answered (as_symbols letters) Nowhere
   found_none e = (rw e, tt)
 
   -- no segment is left
-  pub sought_end : length later ≡ 0 → Answered Nowhere
+  pub sought_end : length rest ≤ passed → Answered strand.symbols.now Nowhere
   unfolding first_standing tries
-  sought_end h = found_none (t.same ∙ go later h)
-    where
-      go : (ks : List ℕ) → length ks ≡ 0 → first_standing (drop p (as_symbols letters)) (drop p letters) (tries passed centre ks) ≡ none
-      go [] q = refl
-      go (x ∷ ks) q = absurd (omega arith)
+  sought_end h = answered Nowhere (found_none (t.same ∙ ap (λ (ks : List ℕ). first_standing (drop p (as_symbols letters)) (drop p letters) (tries passed centre ks)) (drop_all passed rest h)))
 
   -- all that is left to try has no room
-  pub sought_past : length letters + 8 * (passed + 1) ≤ p + centre → Answered Nowhere
+  pub sought_past : length letters + 8 * (passed + 1) ≤ p + centre → Answered strand.symbols.now Nowhere
   sought_past h =
       let long : length (drop p (as_symbols letters)) ≡ length (drop p letters) = simp length-drop (omega (arith, length_as letters)) in
-      found_none (t.same ∙ none_left (drop p (as_symbols letters)) (drop p letters) long passed centre later t.lengths (omega (arith, long, length-drop p letters)))
+      answered Nowhere (found_none (t.same ∙ none_left (drop p (as_symbols letters)) (drop p letters) long passed centre (drop passed rest) t.lengths (omega (arith, long, length-drop p letters))))
 
   -- the segment of the next length
-  module _ (x : ℕ) (xs : List ℕ) (here : later ≡ x ∷ xs) where
+  module _ (more_left : passed < length rest) where
+    abbrev x : ℕ
+    x = get_or rest passed 0
+
+    abbrev xs : List ℕ
+    xs = drop (passed + 1) rest
+
+    here : drop passed rest ≡ x ∷ xs
+    here = drop_more rest passed 0 more_left
+
     abbrev S : List ℕ
     S = drop p (as_symbols letters)
 
@@ -127,7 +145,7 @@ module _ {letters : List ℕ} {p : ℕ} {marked : Bool} {k : ℕ} {rest : List �
 
     -- the first start where it stands
     abbrev first : Option ℕ
-    first = first_clean x (letter_before true 0 S) S L starts
+    first = first_clean x (letter_before None S) S L starts
 
     Length-is : Length x × Lengths longest xs
     Length-is = go (rw here at t.lengths)
@@ -140,30 +158,29 @@ module _ {letters : List ℕ} {p : ℕ} {marked : Bool} {k : ℕ} {rest : List �
     sought_small = Length-is.0
 
     -- it is found in its window, or one behind it
-    window_is : scan (size marked k) rest S L ≡ try_from passed x first (first_standing S L (tries (passed + 1) (centre + size true x) xs))
+    window_is : scan (size start.marked k) rest S L ≡ try_from passed x first (first_standing S L (tries (passed + 1) (centre + size true x) xs))
     unfolding tries
-    window_is = t.same ∙ (rw here (window_first passed x 0 S L starts (tries (passed + 1) (centre + size true x) xs)))
+    window_is = t.same ∙ (rw here (window_first passed x S L starts (tries (passed + 1) (centre + size true x) xs)))
 
-    module _ (r : Next) (is : r ≡ searched true 0 x passed p starts letters) where
+    module _ (r : Next) (is : r ≡ searched None x passed p starts letters) where
       -- it stands
-      pub sought_found : (at f n : ℕ) → r ≡ Clean at f n → Answered r
+      pub sought_found : (at f n : ℕ) → r ≡ Clean at f n → Answered strand.symbols.now r
       unfolding letter_before
-      sought_found at f n e = (go first refl, subst (Known (as_symbols letters) letters rest) (sym is) (searched-Known true 0 x passed p starts letters (omega arith) inside rest xs (t.left ∙ here)))
+      sought_found at f n e = answered r (go first refl, subst (Known (as_symbols letters) letters rest) (sym is) (searched-Known None x passed p starts letters tt inside rest xs here))
         where
-          go : (o : Option ℕ) → first ≡ o → start_of r ≡ (lost_at marked k rest p (as_symbols letters) letters 0).next
-          go (some o) q = ap start_of is ∙ (searched_start true 0 x passed p starts letters ∙ rw (q, window_is, q))
-          go none q = absurd (nowhere (sym e ∙ (is ∙ ap (clean_from passed p (letter_before true 0 S)) q)))
+          go : (o : Option ℕ) → first ≡ o → start_of r ≡ (lost_at start.marked k rest p (as_symbols letters) letters 0).next
+          go (some o) q = ap start_of is ∙ (searched_start None x passed p starts letters ∙ rw (q, window_is, q))
+          go none q = absurd (nowhere (sym e ∙ (is ∙ ap (clean_from passed p (letter_before None S)) q)))
             where
               nowhere : Clean at f n ≡ Nowhere → ⊥
               nowhere z = let y : ◌≡◌ {A = ℕ} 0 1 = cc in omega arith
 
       -- it does not: the one behind it is sought
-      pub Sought-on : ((at f n : ℕ) → r ≡ Clean at f n → ⊥) → centre < most_letters + 8 * (passed + 1) → (n : ℕ) → n ≡ size true x → Sought letters p marked k rest (centre + n) (passed + 1) xs
+      pub Sought-on : ((at f n : ℕ) → r ≡ Clean at f n → ⊥) → centre < most_letters + 8 * (passed + 1) → (n : ℕ) → n ≡ size true x → Sought strand start k rest (centre + n) (passed + 1)
       Sought-on h close n e =
           let z = size_marked x sought_small in
           record {
             same = window_is ∙ rw (go first refl, e);
-            left = sym (drop-drop 1 passed rest) ∙ ap (drop 1) (t.left ∙ here);
             lengths = Length-is.1;
             far = omega (arith, t.far, z.0);
             near = omega (arith, z.1);
@@ -171,4 +188,4 @@ module _ {letters : List ℕ} {p : ℕ} {marked : Bool} {k : ℕ} {rest : List �
         where
           go : (o : Option ℕ) → first ≡ o → first ≡ none
           go none q = q
-          go (some o) q = absurd (h _ _ _ (is ∙ ap (clean_from passed p (letter_before true 0 S)) q))
+          go (some o) q = absurd (h _ _ _ (is ∙ ap (clean_from passed p (letter_before None S)) q))

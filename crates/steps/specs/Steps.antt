@@ -5,23 +5,27 @@
 --   step_at           the step of the segment at a start
 --   step_of           the same, or that of a segment that is passed, or whose start was not found
 --   going             the outcomes of the segments from a start on
+--   is_whole          whether the marker at a start is whole
+--   message_from      the message at a start
+--   step_from         the step of the segment at a start
+--   lost_from         the same, where a step loses it
 --   AtStart           what is given of a segment
+--   CleanAt           a clean segment stands at a start
 --   Marked            a known start has a marker
 --   standing_answer   the answer of a segment that stands in its place
 --   unfound_answer    that of one that is lost for want of a start
 --   IsStep            what a call answers of a step, and leaves in the buffer
---   Stepped           the same of the segment at a place
+--   Stepped           the same of the segment at a start
 --   SteppedLost       the same of a segment that a step loses
---   SteppedFrom       the same of the segment at a start, where one was found
-use Rattle.std.specs.Prelude.{◌≡◌, Bool, true, List, map, ℕ, zero, suc, ◌+◌, ◌-◌, length, get_or, take, drop}
+--   SteppedFrom       the same of the next segment, where a start was found
+use Rattle.std.specs.Prelude.{◌≡◌, Bool, true, List, map, ℕ, zero, suc, ◌+◌, ◌-◌, ◌≤◌, length, get_or, take, drop}
 use Rattle.std.proofs.Math.Option.{Option, some, none}
-use Rattle.code.specs.Bounds.{longest, Length, Received, Start}
+use Rattle.code.specs.Bounds.{longest, Length}
 use Rattle.code.specs.Layers.{width}
 use Rattle.code.specs.Segment.{last_of, size}
 use Rattle.code.specs.Layout.{Lengths}
 use Rattle.code.specs.Reading as R
 use Rattle.code.specs.Reading.{message, read_segment}
-use Rattle.code.specs.Symbols.{as_symbols}
 use Rattle.code.specs.Strands.{Try, scan, told, Outcome, lost_outcome, unfound, reading}
 use Rattle.code.specs.declared.Edit.TheVariants.{None}
 use Rattle.code.specs.declared.Verdict.TheVariants.{Read, Lost, NoStart}
@@ -29,6 +33,8 @@ use Rattle.scan.specs.declared.Next.{Next}
 use Rattle.scan.specs.declared.Next.TheVariants.{At, Clean, Nowhere}
 use Rattle.scan.specs.Scans.{Ahead, ahead, start_of, Known}
 use Rattle.steps.specs.declared.Answer.{Answer}
+use Rattle.steps.specs.declared.strand.Strand.{Strand}
+use Rattle.steps.specs.declared.strand.Start.{Start}
 
 -- the outcome of a segment, and where reading goes on
 pub record Step : Type 0 where
@@ -72,13 +78,31 @@ unfoldable pub going : Option Ahead → Bool → List ℕ → List ℕ → List 
 going (some x) marked ks s letters = reading scan x.passed marked x.before ks (drop x.place s) (drop x.place letters)
 going none marked ks s letters = map unfound ks
 
--- a segment of k message symbols may start at p in the letters, which are read as s, f being the symbol before it, and the lengths ks follow
-pub record AtStart (s letters ks : List ℕ) (k p f : ℕ) : Type 0 where
-  pub received : Received s
-  pub read : s ≡ as_symbols letters
-  pub start : Start s p f
+-- the marker of the segment at a start is whole
+abbrev pub is_whole : Strand → Start → Bool
+is_whole strand start = R.whole start.marked (drop start.at strand.symbols.now)
+
+-- the message of k symbols of the segment at a start
+abbrev pub message_from : Strand → Start → ℕ → R.MessageResult
+message_from strand start k = R.read_message start.marked k (drop start.at strand.symbols.now)
+
+-- the step of the segment of k message symbols at a start
+abbrev pub step_from : Strand → Start → ℕ → List ℕ → Step
+step_from strand start k ks = step_at start.marked start.before k ks start.at strand.symbols.now strand.letters.now
+
+-- the same, where `step` loses it
+abbrev pub lost_from : Strand → Start → ℕ → List ℕ → ℕ → Step
+lost_from strand start k ks step = lost_at start.marked k ks start.at strand.symbols.now strand.letters.now step
+
+-- a segment of k message symbols may start there, and the lengths ks follow
+pub record AtStart (strand : Strand) (start : Start) (ks : List ℕ) (k : ℕ) : Type 0 where
+  pub inside : start.at ≤ length strand.symbols.now
   pub message : Length k
   pub behind : Lengths longest ks
+
+-- a clean segment of k message symbols stands there, and has a marker
+abbrev pub CleanAt : Strand → Start → ℕ → Type 0
+CleanAt strand start k = (start.marked ≡ true) × (R.clean k start.before (drop start.at strand.symbols.now) (drop start.at strand.letters.now) ≡ true)
 
 -- a start where a clean segment is known to stand is one behind the first segment
 abbrev pub Marked : Next → Bool → Type 0
@@ -95,20 +119,20 @@ abbrev pub unfound_answer : Next → Answer
 unfound_answer next = record { verdict = NoStart; next = next }
 
 -- r tells next start and verdict of a step, but for what is said of its piece, before the lengths ks, and the buffer has its message
-pub record IsStep (t : Step) (s letters ks out : List ℕ) (r : Answer) : Type 0 where
+pub record IsStep (t : Step) (strand : Strand) (ks out : List ℕ) (r : Answer) : Type 0 where
   pub verdict : told r.verdict t.outcome.piece ≡ t.outcome.verdict
   pub next : start_of r.next ≡ t.next
   pub message : out ≡ t.outcome.message
-  pub known : Known s letters ks r.next
+  pub known : Known strand.symbols.now strand.letters.now ks r.next
 
--- r tells the step of the segment at p, whose message goes from `before` to `after` in the buffer
-abbrev pub Stepped : Bool → ℕ → ℕ → List ℕ → List ℕ → List ℕ → List ℕ → List ℕ → Answer → Type 0
-Stepped marked f p s letters ks before after r = IsStep (step_at marked f (length before) ks p s letters) s letters ks after r
+-- r tells the step of the segment at a start, whose message goes from `before` to `after` in the buffer
+abbrev pub Stepped : Strand → Start → List ℕ → List ℕ → List ℕ → Answer → Type 0
+Stepped strand start ks before after r = IsStep (step_from strand start (length before) ks) strand ks after r
 
--- r tells the step of the segment at p, which `step` loses
-abbrev pub SteppedLost : Bool → ℕ → ℕ → List ℕ → List ℕ → List ℕ → List ℕ → List ℕ → Answer → Type 0
-SteppedLost marked step p s letters ks before after r = IsStep (lost_at marked (length before) ks p s letters step) s letters ks after r
+-- r tells the step of the segment at a start, which `step` loses
+abbrev pub SteppedLost : Strand → Start → ℕ → List ℕ → List ℕ → List ℕ → Answer → Type 0
+SteppedLost strand start step ks before after r = IsStep (lost_from strand start (length before) ks step) strand ks after r
 
 -- r tells the step of the next segment where reading goes on at x
-abbrev pub SteppedFrom : Next → Bool → List ℕ → List ℕ → List ℕ → List ℕ → List ℕ → Answer → Type 0
-SteppedFrom x marked s letters ks before after r = IsStep (step_of (start_of x) marked (length before) ks s letters) s letters ks after r
+abbrev pub SteppedFrom : Strand → Next → Bool → List ℕ → List ℕ → List ℕ → Answer → Type 0
+SteppedFrom strand x marked ks before after r = IsStep (step_of (start_of x) marked (length before) ks strand.symbols.now strand.letters.now) strand ks after r

@@ -1,72 +1,52 @@
 // Step 8: where a segment ends.
-ghost use Rattle.std.specs.Prelude.{◌≡◌, false, ◌<◌, ◌≤◌, length};
-ghost use Rattle.code.specs.Symbols.{as_symbols};
-ghost use Rattle.code.specs.Limits.{most_letters};
-ghost use Rattle.code.specs.Bounds.{longest, Length, Received};
-ghost use Rattle.code.specs.Layout.{Lengths};
+ghost use Rattle.std.specs.Prelude.{◌≡◌, false, ◌<◌, length};
 ghost use Rattle.tail.specs.Tails.{IsTail};
 ghost use Rattle.message.specs.MessageAnswers.{separator_as};
 ghost use Rattle.steps.specs.Step8.{separator_in, settled_at, IsEnd};
+ghost use Rattle.steps.specs.Steps.{AtStart};
 
+use crate::strand::{Start, Strand};
 use clean::syndrome_at;
-use message::{Separator, after_separator};
+use message::{Shift, after_separator};
 use scan::{Next, find_clean};
 use segment::{data_at, size_of};
 use tail::{Tail, last_of};
 
 // The end that the symbols after the separator don't settle: where a clean segment of the first of the lengths `rest` starts.
-fn end_at_clean(
-    letters: &[u8],
-    p: usize,
-    marked: bool,
-    message: &[u8],
-    tail: Tail,
-    rest: &[u16],
-) -> Next
-    requires received { (length letters.now ≤ most_letters) × IsTail message.now tail × Lengths longest rest.now }
-    requires place { (p ≤ length letters.now) × Length (length message.now) × (0 < length rest.now) }
-    requires unsettled { settled_at marked message.now p (as_symbols letters.now) ≡ false }
-    ensures { IsEnd marked message.now rest.now p (as_symbols letters.now) letters.now result }
+fn end_at_clean(strand: &Strand, start: Start, message: &[u8], tail: Tail, rest: &[u16]) -> Next
+    requires at_start { AtStart strand.now start rest.now (length message.now) × (0 < length rest.now) }
+    requires tail { IsTail message.now tail }
+    requires unsettled { settled_at strand.now start message.now ≡ false }
+    ensures { IsEnd strand.now start message.now rest.now result }
 {
-    find_clean(
-        letters,
-        p,
-        size_of(marked, message.len()),
-        rest[0] as usize,
-        1,
-        false,
-        last_of(tail),
-        0,
-    )
+    let n = size_of(start.marked, message.len());
+    let f = last_of(tail);
+    find_clean(strand.letters, start.at, n, rest[0] as usize, 1, Some(f), 0)
 }
 
-// Step 8: where the segment of a message at p ends; `rest` is the lengths behind it.
+// Step 8: where the segment of a message ends; `rest` is the lengths behind it.
 pub fn end_of(
-    s: &[u8],
-    letters: &[u8],
-    p: usize,
-    marked: bool,
+    strand: &Strand,
+    start: Start,
     message: &[u8],
     tail: Tail,
-    found: Separator,
+    found: Option<Shift>,
     rest: &[u16],
 ) -> Next
-    requires received { Received s.now × IsTail message.now tail × Lengths longest rest.now × (s.now ≡ as_symbols letters.now) }
-    requires place { (p ≤ length s.now) × Length (length message.now) }
-    requires found { found ≡ separator_as (separator_in marked (length message.now) p s.now) }
-    ensures { IsEnd marked message.now rest.now p s.now letters.now result }
+    requires at_start { AtStart strand.now start rest.now (length message.now) }
+    requires tail { IsTail message.now tail }
+    requires found { found ≡ separator_as (separator_in strand.now start (length message.now)) }
+    ensures { IsEnd strand.now start message.now rest.now result }
 {
-    if rest.len() == 0 {
-        return Next::At(s.len(), last_of(tail));
+    if rest.is_empty() {
+        return Next::At(strand.symbols.len(), last_of(tail));
     }
-    match found {
-        Separator::Moved(j) => {
-            let after = after_separator(p + data_at(marked), message.len(), j);
-            if syndrome_at(tail, s, after) {
-                return Next::At(after + tail.width, last_of(tail));
-            }
-            end_at_clean(letters, p, marked, message, tail, rest)
-        }
-        Separator::Missing => end_at_clean(letters, p, marked, message, tail, rest),
+    let Some(shift) = found else {
+        return end_at_clean(strand, start, message, tail, rest);
+    };
+    let after = after_separator(start.at + data_at(start.marked), message.len(), shift);
+    if syndrome_at(tail, strand.symbols, after) {
+        return Next::At(after + tail.width, last_of(tail));
     }
+    end_at_clean(strand, start, message, tail, rest)
 }

@@ -1,7 +1,4 @@
 -- What a byte is, by whether it is a letter.
---   n_counts        N is a letter where it counts as one
---   two_fit         a sum of two masked numbers is a byte
---   three_fit       so is one of three
 --   letter_cases    what holds of each letter holds of all
 --   symbol_bits     two bits of a symbol's letter give its number
 --   letter_bits     three bits of a letter do
@@ -11,31 +8,17 @@
 --   unknown_letter  a letter that is no symbol's is N
 --   no_letter       any other byte is foreign
 use mathlib.Core.Path.{◌≡◌, refl, sym, subst}
-use mathlib.Core.Bool.{Bool, true, false, cond, ◌&&◌, false≢true}
+use mathlib.Core.Bool.{Bool, true, false, cond, false≢true}
 use mathlib.Core.List.{List, ◌∷◌}
 use Prim.Native.Nat.{ℕ, zero, suc, ◌+◌, ◌/◌}
 use native.Mathlib.Omega.{arith}
 use borrow.Author.Tests.{eqb-true}
-use lib.Bits.{bit_and, and_le_r}
+use lib.Bits.{bit_and}
 use lib.Dec.{eqb}
-use mir.Syntax.{w8}
-use mir.Val.{Fits}
 use Rattle.code.specs.declared.Letter.{Letter}
 use Rattle.code.specs.declared.Letter.TheVariants.{Symbol, Unknown, Foreign}
 use Rattle.code.specs.Symbols.{letter_of, symbol_of, before}
 use Rattle.symbols.specs.Letters.{counts, is_letter}
-
--- N is a letter where it counts as one, and another byte that is left is none
-pub n_counts : (b n : Bool) → (b && n) ≡ counts n (cond b Unknown Foreign)
-n_counts true n = refl
-n_counts false n = refl
-
--- a sum of masked numbers is a byte
-pub two_fit : (a b : ℕ) → Fits w8 (bit_and a 2 + bit_and b 1)
-two_fit a b = omega (arith, and_le_r a 2, and_le_r b 1)
-
-pub three_fit : (a b c : ℕ) → Fits w8 (bit_and a 2 + bit_and b 1 + bit_and c 1)
-three_fit a b c = omega (arith, and_le_r a 2, and_le_r b 1, and_le_r c 1)
 
 -- what holds of each letter holds of all
 letter_cases : (P : ℕ → Type 0) → P 65 → P 84 → P 67 → P 71 → (n : Bool) → (n ≡ true → P 78) → (c : ℕ) → is_letter n c ≡ true → P c

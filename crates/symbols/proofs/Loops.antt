@@ -1,15 +1,12 @@
 -- One step of each loop over letters.
 --   Letters                                  the first bytes of a strand are letters, with its step and its ends
 --   letters_turn, letters_end, letters_next  letters throughout, by one byte
---   foreign_left, foreign_next               a foreign byte among those that are left
 --   symbols_next, symbols_all                letters as symbols, by one letter
 --   unknown_turn, unknown_end                an N among letters, by one letter
 use mathlib.Core.Path.{◌≡◌, refl, ap, ◌∙◌, sym}
 use mathlib.Core.Bool.{Bool, true, false, ◌&&◌, ◌||◌}
 use mathlib.Core.List.{List, [], ◌∷◌}
 use Prim.Native.Nat.{ℕ, suc, ◌+◌, ◌%◌, ◌<◌, ◌≤◌}
-use native.Mathlib.Decide.{dec_le}
-use native.Mathlib.Nat.{lt_of_not-le}
 use native.Mathlib.Numerals.{add-one}
 use native.Mathlib.Omega.{arith}
 use lib.Dec.{ltb}
@@ -19,15 +16,12 @@ use Rattle.code.proofs.laws.Lists.{drop_next, drop_inside}
 use Rattle.code.specs.Symbols.{letter_of, legible, as_symbols, has_unknown}
 use Rattle.code.proofs.laws.Letters.{length_as, as_drop}
 use Rattle.symbols.specs.Letters.{is_letter, all_letters}
-use Rattle.symbols.proofs.LetterBits.{number_before, no_letter}
+use Rattle.symbols.proofs.LetterBits.{number_before}
 
 -- the first i bytes of cs are letters
 pub record Letters (cs : List ℕ) (i : ℕ) : Type 0 where
   pub rest : drop i (legible cs) ≡ legible (drop i cs)
   pub read : i ≤ length (legible cs)
-
-pub none_read : (cs : List ℕ) → Letters cs 0
-none_read cs = record { rest = refl; read = omega arith }
 
 module _ (cs : List ℕ) (i : ℕ) (l : Letters cs i) where
   -- no letter follows, so i is their number
@@ -46,11 +40,6 @@ module _ (cs : List ℕ) (i : ℕ) (l : Letters cs i) where
     one_more =
         let n = drop_inside (legible cs) _ i x legible_next in
         record { rest = drop_next (legible cs) _ i x legible_next; read = omega arith }
-
-  -- the next byte is foreign
-  pub length_foreign : i < length cs → is_letter true (get_or cs i 0) ≡ false → i ≡ length (legible cs)
-  unfolding legible
-  length_foreign h e = all_read (rw (drop-cons cs i 0 h, no_letter (get_or cs i 0) e))
 
   -- no byte is left
   pub length_whole : length cs ≤ i → i ≡ length (legible cs)
@@ -83,19 +72,6 @@ letters_end n cs i false h = refl
 -- the next byte is a letter, and so are those behind it
 pub letters_next : (n : Bool) (cs : List ℕ) (i : ℕ) → i < length cs → all_letters n (drop i cs) ≡ true → (is_letter n (get_or cs i 0) ≡ true) × (all_letters n (drop (i + 1) cs) ≡ true)
 letters_next n cs i h e = first_true (is_letter n (get_or cs i 0)) (all_letters n (drop (i + 1) cs)) (sym (all_step n cs i h) ∙ e)
-
--- a foreign byte is left, so a byte is
-pub foreign_left : (n : Bool) (cs : List ℕ) (i : ℕ) → all_letters n (drop i cs) ≡ false → i < length cs
-unfolding all_letters
-foreign_left n cs i e = go (dec_le (length cs) i)
-  where
-    go : Dec (length cs ≤ i) → i < length cs
-    go (yes h) = let t : all_letters n (drop i cs) ≡ true = rw (drop_of_length-le cs h) in let z : ◌≡◌ {A = ℕ} 0 1 = cc in absurd (omega arith)
-    go (no h) = lt_of_not-le h
-
--- the next byte is a letter, so the foreign one is behind it
-pub foreign_next : (n : Bool) (cs : List ℕ) (i : ℕ) → all_letters n (drop i cs) ≡ false → is_letter n (get_or cs i 0) ≡ true → all_letters n (drop (i + 1) cs) ≡ false
-foreign_next n cs i e k = sym (all_step n cs i (foreign_left n cs i e) ∙ rw k) ∙ e
 
 -- Letters as symbols
 

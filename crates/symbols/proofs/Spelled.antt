@@ -1,21 +1,14 @@
 -- Symbols that are being turned into letters, in place.
---   bit_below    a condition as a number is 0 or 1
 --   letter_sum   the letter of a symbol, as a sum
---   spelled_to   the first i symbols are letters, with the next symbol, its turn and the end
+--   spelled_to   the first i symbols are letters, with the next symbol and its turn
 use mathlib.Core.Path.{◌≡◌, refl, ap}
-use mathlib.Core.Bool.{Bool, true, false}
-use mathlib.Core.List.{List, [], ◌∷◌, ◌++◌, append-nil}
-use Prim.Native.Nat.{ℕ, zero, suc, ◌+◌, ◌*◌, ◌<◌, ◌≤◌}
+use mathlib.Core.List.{List, [], ◌∷◌, ◌++◌}
+use Prim.Native.Nat.{ℕ, zero, suc, ◌+◌, ◌*◌, ◌<◌}
 use native.Mathlib.Omega.{arith}
 use lib.Dec.{eqb}
-use lib.ListN.{length, get_or, set, take, drop, length-map, drop_of_length-le}
-use lib.Seq.{take_all}
+use lib.ListN.{length, get_or, set, take, drop}
 use mir.Val.{bool_byte}
 use Rattle.code.specs.Symbols.{letter_of, letters}
-
-pub bit_below : (b : Bool) → bool_byte b < 2
-bit_below true = omega arith
-bit_below false = omega arith
 
 pub letter_sum : (s : ℕ) → s < 4 → 65 + s + 18 * bool_byte (eqb s 1) + 3 * bool_byte (eqb s 3) ≡ letter_of s
 letter_sum zero h = refl
@@ -38,7 +31,3 @@ pub spelled_next : (s : List ℕ) (i : ℕ) → i < length s → set (spelled_to
 spelled_next [] i h = absurd (omega arith)
 spelled_next (x ∷ s) zero h = refl
 spelled_next (x ∷ s) (suc i) h = ap (λ (l : List ℕ). letter_of x ∷ l) (spelled_next s i (omega arith))
-
--- no symbol is left
-pub spelled_all : (s : List ℕ) (i : ℕ) → length s ≤ i → spelled_to i s ≡ letters s
-spelled_all s i h = rw (take_all i (letters s) (omega (arith, length-map s letter_of)), drop_of_length-le s h) (append-nil (letters s))

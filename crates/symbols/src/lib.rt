@@ -2,6 +2,8 @@
 
 #![tactic(auto)]
 
+pub mod letters;
+
 ghost use Rattle.std.specs.Prelude.{◌≡◌, true, ◌&&◌, ◌||◌, ◌<◌, ◌≤◌, length};
 ghost use Rattle.code.specs.Symbols.{Below, letter_of, symbol_of, letters, legible, decoded, as_symbols, has_unknown};
 ghost use Rattle.code.specs.Buffers.{over_front};
@@ -15,43 +17,11 @@ pub const SHORT_LETTERS: usize = 1280;
 // The most bytes B of a message whose symbols stand in a smaller array.
 pub const SHORT_BYTES: u32 = 128;
 
-// Both hold.
-fn both(a: bool, b: bool) -> bool
-    ensures { result ≡ (a && b) }
-{
-    if a {
-        return b;
-    }
-    false
-}
-
-// One of them holds.
-fn either(a: bool, b: bool) -> bool
-    ensures { result ≡ (a || b) }
-{
-    if a {
-        return true;
-    }
-    b
-}
-
 // Whether a byte is a letter: A, T, C or G, or N where `unknown` says so.
 fn is_letter(c: u8, unknown: bool) -> bool
     ensures { result ≡ is_letter unknown c }
 {
-    if c == 65 {
-        return true;
-    }
-    if c == 84 {
-        return true;
-    }
-    if c == 67 {
-        return true;
-    }
-    if c == 71 {
-        return true;
-    }
-    both(c == 78, unknown)
+    matches!(c, b'A' | b'T' | b'C' | b'G') || unknown && c == b'N'
 }
 
 // The number of a letter, from two of its bits, 0 to 3 for the symbols, or from three where it may be N, which is 4.
@@ -61,9 +31,10 @@ fn number_of(c: u8, unknown: bool) -> u8
 {
     let symbol = (c & 2) + ((c >> 2) & 1);
     if unknown {
-        return symbol + ((c >> 3) & 1);
+        symbol + ((c >> 3) & 1)
+    } else {
+        symbol
     }
-    symbol
 }
 
 // What a byte is: a letter with its symbol, N, or no letter.
@@ -79,12 +50,12 @@ pub fn symbol_of(letter: u8) -> Letter
     Letter::Foreign
 }
 
-// The letter of a symbol: 65 more than the symbol, T 18 more than that and G 3 more; a sum, so that many are formed at once.
+// The letter of a symbol: A and the symbol, T 18 more than that and G 3 more; a sum, so that many are formed at once.
 pub fn letter_of(symbol: u8) -> u8
     requires { symbol < 4 }
     ensures { result ≡ letter_of symbol }
 {
-    65 + symbol + 18 * ((symbol == 1) as u8) + 3 * ((symbol == 3) as u8)
+    b'A' + symbol + 18 * u8::from(symbol == 1) + 3 * u8::from(symbol == 3)
 }
 
 // Symbols turned into their letters, in place.
@@ -92,10 +63,8 @@ pub fn spell(symbols: &mut [u8])
     requires { Below 4 symbols.old }
     ensures { symbols.new ≡ letters symbols.old }
 {
-    let mut i = 0;
-    while i < symbols.len() {
-        symbols[i] = letter_of(symbols[i]);
-        i += 1;
+    for x in symbols.iter_mut() {
+        *x = letter_of(*x);
     }
 }
 
@@ -104,10 +73,8 @@ fn all_letters(letters: &[u8], unknown: bool) -> bool
     ensures { result ≡ all_letters unknown letters.now }
 {
     let mut all = true;
-    let mut i = 0;
-    while i < letters.len() {
-        all = both(all, is_letter(letters[i], unknown));
-        i += 1;
+    for &c in letters {
+        all &= is_letter(c, unknown);
     }
     all
 }
@@ -118,10 +85,8 @@ fn decode_letters(letters: &[u8], out: &mut [u8], unknown: bool)
     requires room { length letters.now ≤ length out.old }
     ensures { out.new ≡ over_front (legible letters.now) out.old }
 {
-    let mut i = 0;
-    while i < letters.len() {
+    for i in 0..letters.len() {
         out[i] = number_of(letters[i], unknown);
-        i += 1;
     }
 }
 
@@ -138,12 +103,12 @@ pub fn decode(letters: &[u8], out: &mut [u8]) -> Decoded
         decode_letters(letters, out, true);
         return Decoded::Whole(true);
     }
-    let mut i = 0;
-    while is_letter(letters[i], true) {
-        out[i] = number_of(letters[i], true);
-        i += 1;
-    }
-    Decoded::Foreign(i)
+    let first = letters
+        .iter()
+        .position(|&c| !is_letter(c, true))
+        .unwrap_or(letters.len());
+    decode_letters(&letters[..first], out, true);
+    Decoded::Foreign(first)
 }
 
 // The symbols that letters are read as, at the front of `out`: N as A.
@@ -151,10 +116,8 @@ pub fn as_symbols(letters: &[u8], out: &mut [u8])
     requires { length letters.now ≤ length out.old }
     ensures { out.new ≡ over_front (as_symbols letters.now) out.old }
 {
-    let mut i = 0;
-    while i < letters.len() {
+    for i in 0..letters.len() {
         out[i] = letters[i] & 3;
-        i += 1;
     }
 }
 
@@ -163,10 +126,8 @@ pub fn has_unknown(letters: &[u8]) -> bool
     ensures { result ≡ has_unknown letters.now }
 {
     let mut found = false;
-    let mut i = 0;
-    while i < letters.len() {
-        found = either(found, 3 < letters[i]);
-        i += 1;
+    for &x in letters {
+        found |= 3 < x;
     }
     found
 }

@@ -1,29 +1,21 @@
 -- Sums of symbols and bits of numbers, by one step.
---   either_digit, sep_sum   Sep as a sum
+--   sep_sum                 Sep as a sum
 --   total_step, total_end   the sum of symbols from a place on
 --   bits_last               the last of the symbols of two numbers
 --   bits_at                 their symbol at a place
-use mathlib.Core.Path.{◌≡◌, refl, sym, ap, ◌∙◌}
-use mathlib.Core.Bool.{Bool, true, false, cond, ◌||◌}
+use mathlib.Core.Path.{◌≡◌, sym, ap, ◌∙◌}
+use mathlib.Core.Bool.{Bool, true, false, cond}
 use mathlib.Core.List.{List, [], ◌∷◌, ◌++◌}
 use Prim.Native.Nat.{ℕ, zero, suc, ◌+◌, ◌-◌, ◌*◌, ◌/◌, ◌%◌, ◌^◌, ◌<◌, ◌≤◌}
 use native.Mathlib.Numerals.{add-one}
 use native.Mathlib.Omega.{arith}
-use lib.Bits.{bit_and, bit_or, and_mask}
+use lib.Bits.{bit_and, and_mask}
 use lib.Pow.{shr-shr}
 use lib.ListN.{length, get_or, drop, drop_of_length-le}
-use mir.Val.{bool_byte}
 use lib.Seq.{drop-cons}
 use Rattle.code.specs.Layers.{bit, digit, pair, bits}
 use Rattle.code.proofs.laws.Layers.{digit-bit}
 use Rattle.code.specs.Segment.{total}
-
--- either of two tests, as a number
-pub either_digit : (p q : Bool) → (bit_or (bool_byte p) (bool_byte q) ≡ digit (p || q)) × (bit_or (bool_byte p) (bool_byte q) < 2)
-either_digit true true = (refl, omega arith)
-either_digit true false = (refl, omega arith)
-either_digit false true = (refl, omega arith)
-either_digit false false = (refl, omega arith)
 
 -- the number that Sep adds to a, by whether a + 2 and a + 3 are taken
 pub sep_sum : (a : ℕ) (p q : Bool) → a < 4 → ((a + 2) % 4 + digit p + 2 * bit_and (digit p) (digit q)) % 4 ≡ cond p (cond q ((a + 1) % 4) ((a + 3) % 4)) ((a + 2) % 4)

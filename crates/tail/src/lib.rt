@@ -12,7 +12,7 @@ ghost use Rattle.tail.specs.Tails.{IsTail, tail_of};
 use layers::Summed;
 
 // What follows a message: check, separator, and the syndromes of both layers, in `width` bits each.
-#[derive(Clone, Copy)]
+#[derive(Clone, Copy, Debug, PartialEq, Eq)]
 pub struct Tail {
     pub check: u8,
     pub separator: u8,
@@ -25,7 +25,7 @@ pub struct Tail {
 fn is_either(x: u8, b: u8, c: u8) -> u8
     ensures { (result ≡ digit (either x b c)) × (result < 2) }
 {
-    ((x == b) as u8) | ((x == c) as u8)
+    u8::from((x == b) | (x == c))
 }
 
 // The separator function Sep, formed without a branch: one more than a + 2 where that is taken, and two more where a + 3 is taken as well.
@@ -46,10 +46,8 @@ pub fn check_of(message: &[u8]) -> u8
     ensures { result ≡ check message.now }
 {
     let mut sum: usize = 0;
-    let mut i = 0;
-    while i < message.len() {
-        sum += message[i] as usize;
-        i += 1;
+    for &x in message {
+        sum += usize::from(x);
     }
     (sum % 4) as u8
 }
@@ -67,13 +65,11 @@ pub fn symbol_in(tail: Tail, i: usize) -> u8
     requires { (i < 4 + tail.width) × (tail.width ≤ widest) }
     ensures { result ≡ get_or (tail_of tail) i 0 }
 {
-    if i == 0 {
-        return tail.check;
+    match i {
+        0 => tail.check,
+        1..=3 => tail.separator,
+        _ => symbol_at(tail.high, tail.low, tail.width + 3 - i),
     }
-    if i < 4 {
-        return tail.separator;
-    }
-    symbol_at(tail.high, tail.low, tail.width + 3 - i)
 }
 
 // What follows a message whose check and sums of places are known.

@@ -2,46 +2,29 @@
 
 #![tactic(auto)]
 
-ghost use Rattle.std.specs.Prelude.{◌≡◌};
-ghost use Rattle.code.specs.Tallies.{passes, full, tallied};
+ghost use Rattle.std.specs.Prelude.{◌≡◌, true, false, MatchOption};
+ghost use Rattle.code.specs.Tallies.{added, full, tallied};
 
-use code::{Refusal, Tallied, Tally};
+use code::{Counts, Refusal, Tally};
 
-// A count with n added would pass the largest number of 32 bits.
-fn would_pass(count: u32, n: u32) -> bool
-    ensures { result ≡ passes count n }
+// The tally with the counts added; none where one of its four counts would pass the largest number of 32 bits.
+fn sum(t: Tally, n: Counts) -> Option<Tally>
+    ensures { MatchOption result (full t n ≡ true) (λ u. (full t n ≡ false) × (u ≡ added t n)) }
 {
-    u32::MAX - count < n
-}
-
-// One of the four counts would.
-fn is_full(t: Tally, clean: u32, corrected: u32, lost: u32) -> bool
-    ensures { result ≡ full t clean corrected lost }
-{
-    if would_pass(t.strands, 1) {
-        return true;
-    }
-    if would_pass(t.clean, clean) {
-        return true;
-    }
-    if would_pass(t.corrected, corrected) {
-        return true;
-    }
-    would_pass(t.lost, lost)
+    Some(Tally {
+        strands: t.strands.checked_add(1)?,
+        counts: Counts {
+            clean: t.counts.clean.checked_add(n.clean)?,
+            corrected: t.counts.corrected.checked_add(n.corrected)?,
+            lost: t.counts.lost.checked_add(n.lost)?,
+        },
+    })
 }
 
 // Adds the three counts of one reading to a tally, and one strand, and answers the new tally.
 // Turned down: 7 one of the tally's four counts would pass 4,294,967,295; then none of them is changed.
-pub fn add(t: Tally, clean: u32, corrected: u32, lost: u32) -> Tallied
-    ensures { result ≡ tallied t clean corrected lost }
+pub fn add(t: Tally, n: Counts) -> Result<Tally, Refusal>
+    ensures { result ≡ tallied t n }
 {
-    if is_full(t, clean, corrected, lost) {
-        return Tallied::Refused(Refusal::TallyFull);
-    }
-    Tallied::Sum(Tally {
-        strands: t.strands + 1,
-        clean: t.clean + clean,
-        corrected: t.corrected + corrected,
-        lost: t.lost + lost,
-    })
+    sum(t, n).ok_or(Refusal::TallyFull)
 }

@@ -10,22 +10,12 @@ use lib.Dec.{leb}
 use lib.ListN.{length, get_or, drop, drop_of_length-le}
 use lib.Seq.{drop-cons}
 use Rattle.text.specs.HexDigit.{value_of, all_digits}
-use Rattle.text.specs.Decimal.{number_from, number_in}
-use Rattle.text.specs.declared.decimal.Number.{Number}
-use Rattle.text.specs.declared.decimal.Number.TheVariants.{Of, Bad}
+use Rattle.text.specs.Decimal.{number_from}
+use Rattle.std.specs.Prelude.{Option, Some, None}
 
 -- what is answered where the digits of n stand before a text
-abbrev pub read_from : ℕ → List ℕ → Number
-read_from n cs = cond (all_digits 10 cs && leb (number_from n cs) 65535) (Of (number_from n cs)) Bad
-
-pub read_none : (cs : List ℕ) → length cs < 1 → number_in cs ≡ Bad
-read_none cs h = rw (lt-ltb (length cs) 1 h)
-
-pub read_many : (cs : List ℕ) → 1 ≤ length cs → 5 < length cs → number_in cs ≡ Bad
-read_many cs l h = rw (le-ltb (length cs) 1 l, lt-ltb 5 (length cs) h)
-
-pub read_all : (cs : List ℕ) → 1 ≤ length cs → length cs ≤ 5 → number_in cs ≡ read_from 0 cs
-read_all cs l h = rw (le-ltb (length cs) 1 l, le-ltb 5 (length cs) h)
+abbrev pub read_from : ℕ → List ℕ → Option ℕ
+read_from n cs = cond (all_digits 10 cs && leb (number_from n cs) 65535) (Some (number_from n cs)) None
 
 -- a number does not fall with further digits
 number_grows : (n : ℕ) (cs : List ℕ) → n ≤ number_from n cs
@@ -33,10 +23,10 @@ unfolding number_from
 number_grows n [] = omega arith
 number_grows n (c ∷ cs) = omega (arith, number_grows (10 * n + value_of c) cs)
 
-pub read_large : (n : ℕ) (cs : List ℕ) → 65535 < n → read_from n cs ≡ Bad
+pub read_large : (n : ℕ) (cs : List ℕ) → 65535 < n → read_from n cs ≡ None
 read_large n cs h = rw (lt-leb (number_from n cs) 65535 (omega (arith, number_grows n cs))) (go (all_digits 10 cs))
   where
-    go : (b : Bool) → cond (b && false) (Of (number_from n cs)) Bad ≡ Bad
+    go : (b : Bool) → cond (b && false) (Some (number_from n cs)) None ≡ None
     go true = refl
     go false = refl
 
@@ -47,11 +37,11 @@ module _ (n : ℕ) (cs : List ℕ) (i : ℕ) where
     unfolding all_digits number_from
     read_step d = rw (add-one, drop-cons cs i 0 h, lt-ltb (value_of (get_or cs i 0)) 10 d)
 
-    pub read_bad : 10 ≤ value_of (get_or cs i 0) → read_from n (drop i cs) ≡ Bad
+    pub read_bad : 10 ≤ value_of (get_or cs i 0) → read_from n (drop i cs) ≡ None
     unfolding all_digits number_from
     read_bad d = rw (drop-cons cs i 0 h, le-ltb (value_of (get_or cs i 0)) 10 d)
 
   -- none is left
-  pub read_end : length cs ≤ i → n ≤ 65535 → read_from n (drop i cs) ≡ Of n
+  pub read_end : length cs ≤ i → n ≤ 65535 → read_from n (drop i cs) ≡ Some n
   unfolding all_digits number_from
   read_end h l = rw (drop_of_length-le cs h, le-leb n 65535 l)

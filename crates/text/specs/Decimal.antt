@@ -6,14 +6,12 @@
 --   three_room    room for them behind their words
 --   number_from   the number that digits write
 --   number_in     the number that a text writes, if it writes one
-use Rattle.std.specs.Prelude.{Bool, not, ◌&&◌, cond, List, [], ◌∷◌, ◌++◌, ℕ, zero, suc, ◌+◌, ◌*◌, ◌/◌, ◌%◌, ltb, leb, length}
+use Rattle.std.specs.Prelude.{Bool, not, ◌&&◌, cond, List, [], ◌∷◌, ◌++◌, ℕ, zero, suc, ◌+◌, ◌*◌, ◌/◌, ◌%◌, ltb, leb, length, Option, Some, None}
 use Prim.Native.String.{String}
 use Rattle.code.specs.Ascii.{ascii}
 use Rattle.code.specs.Refusals.{outside}
 use Rattle.text.specs.Lines.{feed}
 use Rattle.text.specs.HexDigit.{value_of, digit_of, all_digits}
-use Rattle.text.specs.declared.decimal.Number.{Number}
-use Rattle.text.specs.declared.decimal.Number.TheVariants.{Of, Bad}
 
 -- the last m digits of n, or all where it has fewer
 unfoldable pub decimal_in : ℕ → ℕ → List ℕ
@@ -46,5 +44,5 @@ abbrev pub is_number : List ℕ → Bool
 is_number cs = not (outside 1 5 (length cs)) && all_digits 10 cs && leb (number_from 0 cs) 65535
 
 -- the number that a text writes, or that it writes none
-abbrev pub number_in : List ℕ → Number
-number_in cs = cond (is_number cs) (Of (number_from 0 cs)) Bad
+abbrev pub number_in : List ℕ → Option ℕ
+number_in cs = cond (is_number cs) (Some (number_from 0 cs)) None

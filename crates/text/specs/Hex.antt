@@ -3,11 +3,9 @@
 --   hex_digits    the upper-case digits of bytes
 --   decodable     digits that can be put as bytes into a buffer
 --   decode_call   the answer of a decoding, and the lent buffer afterwards
-use Rattle.std.specs.Prelude.{Bool, ◌&&◌, cond, List, [], ◌∷◌, ℕ, ◌+◌, ◌*◌, ◌/◌, ◌%◌, eqb, leb, length}
+use Rattle.std.specs.Prelude.{Bool, ◌&&◌, cond, List, [], ◌∷◌, ℕ, ◌+◌, ◌*◌, ◌/◌, ◌%◌, eqb, leb, length, Option, Some, None}
 use Rattle.code.specs.Buffers.{over_front}
 use Rattle.text.specs.HexDigit.{no_digit, value_of, digit_of, all_digits}
-use Rattle.text.specs.declared.hex.Hex.{Hex}
-use Rattle.text.specs.declared.hex.Hex.TheVariants.{Bytes, Bad}
 
 -- the bytes of digits, two to a byte, the higher first
 unfoldable pub hex_bytes : List ℕ → List ℕ
@@ -24,6 +22,6 @@ hex_digits (x ∷ xs) = digit_of (x / 16) ∷ digit_of (x % 16) ∷ hex_digits x
 abbrev pub decodable : List ℕ → ℕ → Bool
 decodable cs n = eqb (length cs % 2) 0 && all_digits no_digit cs && leb (length cs / 2) n
 
--- what decoding a text into a buffer answers, and the buffer afterwards: unchanged where it is bad
-abbrev pub decode_call : List ℕ → List ℕ → Hex × List ℕ
-decode_call cs out = cond (decodable cs (length out)) (Bytes (length (hex_bytes cs)), over_front (hex_bytes cs) out) (Bad, out)
+-- what decoding a text into a buffer answers, and the buffer afterwards: unchanged where there is none
+abbrev pub decode_call : List ℕ → List ℕ → Option ℕ × List ℕ
+decode_call cs out = cond (decodable cs (length out)) (Some (length (hex_bytes cs)), over_front (hex_bytes cs) out) (None, out)

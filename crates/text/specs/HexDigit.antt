@@ -1,9 +1,10 @@
 -- One hexadecimal digit. The digits below ten are the decimal ones.
 --   no_digit     what a byte that is no digit counts as
 --   value_of     the value of a digit of either case
+--   value_in     the same, or none for a byte that is no digit
 --   digit_of     the upper-case digit of a value
 --   all_digits   all bytes are digits below a value
-use Rattle.std.specs.Prelude.{Bool, true, ◌&&◌, cond, List, [], ◌∷◌, ℕ, ◌+◌, ◌-◌, ltb}
+use Rattle.std.specs.Prelude.{Bool, true, ◌&&◌, cond, List, [], ◌∷◌, ℕ, ◌+◌, ◌-◌, ltb, Option, Some, None}
 
 -- what a byte that is no digit counts as
 abbrev pub no_digit : ℕ
@@ -18,6 +19,10 @@ value_of c =
     (cond (ltb c 71) (c - 55)
     (cond (ltb c 97) no_digit
     (cond (ltb c 103) (c - 87) no_digit)))))
+
+-- the same, or none for a byte that is no digit
+abbrev pub value_in : ℕ → Option ℕ
+value_in c = cond (ltb (value_of c) no_digit) (Some (value_of c)) None
 
 -- the upper-case digit of a value
 unfoldable pub digit_of : ℕ → ℕ

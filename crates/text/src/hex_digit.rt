@@ -1,42 +1,25 @@
 // One hexadecimal digit. The digits below ten are the decimal ones.
 ghost use Rattle.std.specs.Prelude.{◌≡◌, ◌<◌};
-ghost use Rattle.text.specs.HexDigit.{value_of, digit_of};
+ghost use Rattle.text.specs.HexDigit.{value_in, digit_of};
 
-// What a byte that is no digit counts as.
-pub const NO_DIGIT: u8 = 16;
-
-// The value of a digit of either case; 16 for a byte that is none.
-pub fn value_of(c: u8) -> u8
-    ensures { result ≡ value_of c }
+// The value of a digit of either case; none for a byte that is no digit.
+#[tactic(auto, unfolding(crate::specs::HexDigit::value_of))]
+pub fn value_of(c: u8) -> Option<u8>
+    ensures { result ≡ value_in c }
 {
-    if c < 48 {
-        return NO_DIGIT;
+    match c {
+        b'0'..=b'9' => Some(c - b'0'),
+        b'A'..=b'F' => Some(c - b'A' + 10),
+        b'a'..=b'f' => Some(c - b'a' + 10),
+        _ => None,
     }
-    if c < 58 {
-        return c - 48;
-    }
-    if c < 65 {
-        return NO_DIGIT;
-    }
-    if c < 71 {
-        return c - 55;
-    }
-    if c < 97 {
-        return NO_DIGIT;
-    }
-    if c < 103 {
-        return c - 87;
-    }
-    NO_DIGIT
 }
 
 // The upper-case digit of a value.
+#[tactic(auto, unfolding(crate::specs::HexDigit::digit_of))]
 pub fn digit_of(v: u8) -> u8
     requires { v < 16 }
     ensures { result ≡ digit_of v }
 {
-    if v < 10 {
-        return 48 + v;
-    }
-    55 + v
+    if v < 10 { b'0' + v } else { b'A' + (v - 10) }
 }

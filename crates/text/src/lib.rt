@@ -7,3 +7,5 @@ pub mod hex;
 pub mod hex_digit;
 pub mod lines;
 pub mod put;
+
+pub use put::Text;

@@ -4,28 +4,20 @@ ghost use Rattle.text.specs.Lines as L;
 ghost use Rattle.text.specs.Lines.{line_length};
 
 // The line feed.
-const FEED: u8 = 10;
+const FEED: u8 = b'\n';
 
 // How many bytes stand before the first line feed.
 fn line_length(text: &[u8]) -> usize
     ensures { result ≡ line_length text.now }
 {
-    let mut i = 0;
-    while i < text.len() {
-        if text[i] == FEED {
-            return i;
-        }
-        i += 1;
-    }
-    i
+    text.iter().position(|&c| c == FEED).unwrap_or(text.len())
 }
 
 // The bytes before the first line feed.
 pub fn line(text: &[u8]) -> &[u8]
     ensures { result.now ≡ L.line text.now }
 {
-    let end = line_length(text);
-    &text[..end]
+    &text[..line_length(text)]
 }
 
 // The bytes behind the first line feed.
@@ -34,18 +26,15 @@ pub fn behind(text: &[u8]) -> &[u8]
 {
     let end = line_length(text);
     if end < text.len() {
-        let next = end + 1;
-        return &text[next..];
+        &text[end + 1..]
+    } else {
+        &[]
     }
-    &text[end..]
 }
 
 // The first n bytes, or all where there are fewer.
 pub fn front(text: &[u8], n: usize) -> &[u8]
     ensures { result.now ≡ take n text.now }
 {
-    if n < text.len() {
-        return &text[0..n];
-    }
-    text
+    &text[..n.min(text.len())]
 }

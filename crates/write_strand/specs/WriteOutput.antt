@@ -3,10 +3,9 @@
 --   write_text     the same for an order and digits
 --   write_output   what is printed for an input
 --   output_room    room for all that is printed
-use Rattle.std.specs.Prelude.{cond, List, [], ◌∷◌, ◌++◌, ℕ, ◌+◌, take, replicate}
+use Rattle.std.specs.Prelude.{Result, Ok, Err, cond, List, [], ◌∷◌, ◌++◌, ℕ, ◌+◌, take, replicate}
+use Rattle.code.specs.declared.Refusal.{Refusal}
 use Rattle.code.specs.declared.Refusal.TheVariants.{MessageSize}
-use Rattle.code.specs.declared.Wrote.{Wrote}
-use Rattle.code.specs.declared.Wrote.TheVariants as W
 use Rattle.code.specs.Limits.{most_bytes, most_letters}
 use Rattle.code.specs.Order.{Order}
 use Rattle.code.specs.Writing.{write_call}
@@ -16,9 +15,9 @@ use Rattle.console.specs.LabelLine.{printed}
 use Rattle.console.specs.RefusedLine.{refused_line}
 
 -- what the writer answers: the letters of its buffer in a line, or the refusal
-unfoldable pub written : Wrote × List ℕ → List ℕ
-written (W.Bytes n, strand) = take n strand ++ feed ∷ []
-written (W.Refused r, strand) = refused_line r
+unfoldable pub written : Result ℕ Refusal × List ℕ → List ℕ
+written (Ok n, strand) = take n strand ++ feed ∷ []
+written (Err r, strand) = refused_line r
 
 -- the same for an order and a line, with a buffer of zeros: the line is at most 512 bytes in hexadecimal digits, or refused 2
 unfoldable pub write_text : Order → List ℕ → List ℕ

@@ -2,15 +2,16 @@
 
 #![tactic(auto)]
 
-ghost use Rattle.std.specs.Prelude.{◌≡◌, false, ◌*◌, ◌≤◌, length};
+ghost use Rattle.std.specs.Prelude.{◌≡◌, ◌<◌, false, ◌*◌, ◌≤◌, length};
 ghost use Rattle.code.specs.Limits.{most_length, most_bytes, most_segments};
-ghost use Rattle.code.specs.Bounds.{longest};
+ghost use Rattle.code.specs.Bounds.{longest, reach};
 ghost use Rattle.code.specs.Layout.{sum, Lengths, cut, strand, extent};
 ghost use Rattle.code.specs.Order.{order};
 ghost use Rattle.code.specs.Buffers.{over_front};
 ghost use Rattle.code.specs.Writing.{strand_of, write_call};
 
-use code::{Checked, Refusal, Wrote};
+use code::Refusal;
+use refusal::order::Order;
 use symbols::SHORT_BYTES;
 
 // The length of a layout's strand.
@@ -19,10 +20,8 @@ pub fn extent_of(lengths: &[u16]) -> usize
     ensures { result ≡ extent false lengths.now }
 {
     let mut n = 0;
-    let mut i = 0;
-    while i < lengths.len() {
-        n += segment::size_of(true, lengths[i] as usize);
-        i += 1;
+    for &k in lengths {
+        n += segment::size_of(true, k as usize);
     }
     n - 2
 }
@@ -34,32 +33,31 @@ fn write_layout(lengths: &[u16], symbols: &[u8], out: &mut [u8]) -> usize
     ensures ends { result ≡ extent false lengths.now }
     ensures written { out.new ≡ over_front (strand (cut lengths.now symbols.now)) out.old }
 {
-    let mut i = 0;
     let mut from = 0;
     let mut at = 0;
     let mut f: u8 = 0;
     let mut marked = false;
-    while i < lengths.len() {
-        let k = lengths[i] as usize;
-        let to = from + k;
+    for &k in lengths {
+        let to = from + k as usize;
         f = segment::write_segment(marked, f, &symbols[from..to], out, at);
-        at += segment::size_of(marked, k);
+        at += segment::size_of(marked, k as usize);
         from = to;
         marked = true;
-        i += 1;
     }
     at
 }
 
-// The letters of the strand that carries bytes on a layout, at the front of `out`; their symbols stand in `buffer`, which is lent.
-fn write_letters(lengths: &[u16], message: &[u8], buffer: &mut [u8], out: &mut [u8])
-    requires lengths { Lengths longest lengths.now × (4 * length message.now ≤ length buffer.old) × (length message.now ≤ most_bytes) }
-    requires room { (sum lengths.now ≡ 4 * length message.now) × (extent false lengths.now ≤ length out.old) }
-    ensures { out.new ≡ over_front (strand_of lengths.now message.now) out.old }
+// The letters of the strand that carries bytes for an order, at the front of `out`; its messages have at most N symbols.
+fn write_letters<const N: usize>(order: &Order, message: &[u8], out: &mut [u8])
+    requires message { length message.now ≡ order.now.b }
+    requires symbols { (4 * length message.now ≤ N) × (N < reach) }
+    requires room { extent false order.now.lengths ≤ length out.old }
+    ensures { out.new ≡ over_front (strand_of order.now.lengths message.now) out.old }
 {
-    let n = 4 * message.len();
-    packing::unpack(message, buffer);
-    let end = write_layout(lengths, &buffer[..n], out);
+    let n = order.symbols();
+    let mut symbols = [0u8; N];
+    packing::unpack(message, &mut symbols);
+    let end = write_layout(order.lengths(), &symbols[..n], out);
     symbols::spell(&mut out[..end]);
 }
 
@@ -68,24 +66,19 @@ fn write_letters(lengths: &[u16], message: &[u8], buffer: &mut [u8], out: &mut [
 // Turned down, in this order: 1 a length is not 2 to 256; 2 B is not 1 to 512, or `message` has not B bytes; 3 there are no lengths
 // or more than 64, or they do not sum to 4B; 5 `out` has fewer bytes than the strand has letters.
 // The bytes of `out` behind the strand are untouched; a refusal leaves all of `out` as it was.
-pub fn write(lengths: &[u16], b: u32, message: &[u8], out: &mut [u8]) -> Wrote
+pub fn write(lengths: &[u16], b: u32, message: &[u8], out: &mut [u8]) -> Result<usize, Refusal>
     ensures { let o = order lengths.now b in (result, out.new) ≡ write_call o message.now out.old }
 {
     let other = message.len() != b as usize;
-    let tested = refusal::order_test(lengths, b, other);
-    if let Checked::Refused(r) = tested {
-        return Wrote::Refused(r);
-    }
-    let n = extent_of(lengths);
+    let order = Order::tested(lengths, b, other)?;
+    let n = extent_of(order.lengths());
     if out.len() < n {
-        return Wrote::Refused(Refusal::ShortBuffer);
+        return Err(Refusal::ShortBuffer);
     }
     if b <= SHORT_BYTES {
-        let mut buffer = [0u8; 512];
-        write_letters(lengths, message, &mut buffer, out);
-        return Wrote::Bytes(n);
+        write_letters::<512>(&order, message, out);
+    } else {
+        write_letters::<2048>(&order, message, out);
     }
-    let mut buffer = [0u8; 2048];
-    write_letters(lengths, message, &mut buffer, out);
-    Wrote::Bytes(n)
+    Ok(n)
 }

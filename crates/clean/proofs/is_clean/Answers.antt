@@ -1,5 +1,5 @@
 use mathlib.Core.Path.{◌≡◌, sym, ap, ◌∙◌}
-use Prim.Native.Nat.{ℕ, ◌+◌, ◌-◌}
+use Prim.Native.Nat.{ℕ, ◌+◌}
 use native.Mathlib.Omega.{arith}
 use lib.ListN.{length}
 use Rattle.code.proofs.laws.Layers.{width-Least}
@@ -29,12 +29,6 @@ pub returns-then-not-marker_stands : goal.returns-then-not-marker_stands
 returns-then-not-marker_stands c =
     let a = c.args in
     stands_not a.marked a.f a.k a.rest.now a.p a.s.now (marker_fails a.marked a.f a.k a.rest.now a.p a.s.now a.d c.requires.placed.2 c.requires.placed.1.0 (sym c.marker_stands.ensures ∙ c.if-not-marker_stands.true))
-
-pub tail_stands-requires : goal.tail_stands-requires
-tail_stands-requires c =
-    let a = c.args in
-    let n : a.d + a.k - a.d ≡ a.k = omega arith in
-    record { received = c.requires.received; placed = (omega arith, omega arith, rw n (ap (λ (i : ℕ). a.d + a.k + (4 + i)) c.width_of.ensures), omega (arith, c.if-s-end.false)); sums = rw n c.requires.sums }
 
 pub returns : goal.returns
 returns c =

@@ -1,13 +1,6 @@
 use native.Mathlib.Omega.{arith}
-use lib.ListN.{length}
-use Rattle.clean.proofs.Parts.{marker_seen, two_marks, no_marker, marker_room}
+use Rattle.clean.proofs.Parts.{marker_seen, two_marks, no_marker}
 use Rattle.clean.proofs.marker_stands.Goals as goal
-
-pub bounds-s-p : goal.bounds-s-p
-bounds-s-p c = omega (arith, marker_room c.args.marked c.args.p (length c.args.s.now) c.if-marked.true c.requires.1)
-
-pub bounds-s-p-then-marked : goal.bounds-s-p-then-marked
-bounds-s-p-then-marked c = omega (arith, marker_room c.args.marked c.args.p (length c.args.s.now) c.if-marked.true c.requires.1)
 
 pub returns-then-marked : goal.returns-then-marked
 returns-then-marked c =

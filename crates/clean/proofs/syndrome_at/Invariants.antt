@@ -3,6 +3,3 @@ use Rattle.clean.proofs.syndrome_at.Given as goal
 
 abbrev pub invariant-loop-i : goal.invariant-loop-i
 invariant-loop-i l = Left l.s l.at l.initial.i l.initial.h l.initial.l l.i l.h l.l
-
-abbrev pub decreases-loop-i : goal.decreases-loop-i
-decreases-loop-i l = l.i

@@ -5,7 +5,7 @@ use lib.ListN.{take, drop}
 use Rattle.code.proofs.laws.Segment.{check_below}
 use Rattle.layers.specs.declared.Summed.{Summed}
 use Rattle.clean.proofs.Syndromes.{last_place, separator_there}
-use Rattle.clean.proofs.Segment.{front_fails, front_holds}
+use Rattle.clean.proofs.Segment.{four_symbols, front_fails, front_holds}
 use Rattle.clean.proofs.tail_stands.Goals as goal
 
 pub bounds-s-to : goal.bounds-s-to
@@ -17,19 +17,16 @@ bounds-s-to-2 c = omega (arith, last_place _ _ _ c.requires.placed.0 c.requires.
 pub sep_of-x-requires : goal.sep_of-x-requires
 sep_of-x-requires c = omega (arith, ap (λ (u : Summed). u.check) c.requires.sums, check_below (take (c.args.to - c.args.d) (drop c.args.d c.args.s.now)))
 
-pub returns-then-not-stands_at : goal.returns-then-not-stands_at
-returns-then-not-stands_at c =
+pub returns-else-same : goal.returns-else-same
+returns-else-same c =
     let a = c.args in
     let e = ap (λ (u : Summed). u.check) c.requires.sums in
     let x = c.sep_of-x in
-    front_fails (take (a.to - a.d) (drop a.d a.s.now)) a.s.now a.to x.result (separator_there a.s.now a.d a.to a.end c.requires.placed.0 c.requires.placed.1 c.requires.placed.2 c.requires.placed.3 c.requires.received.symbols x.result (rw (← e) x.ensures)) (rw (← e) (sym c.stands_at.ensures ∙ c.if-not-stands_at.true))
+    c.if-same.false ∙ front_fails (take (a.to - a.d) (drop a.d a.s.now)) a.s.now a.to x.result (separator_there a.s.now a.d a.to a.end c.requires.placed.0 c.requires.placed.1 c.requires.placed.2 c.requires.placed.3 c.requires.received.symbols x.result (rw (← e) x.ensures)) (rw (← e) (sym (four_symbols a.s.now a.to c.args.sums.check x.result (omega (arith, last_place _ _ _ c.requires.placed.0 c.requires.placed.2))) ∙ c.if-same.false))
 
-pub syndrome_stands-requires : goal.syndrome_stands-requires
-syndrome_stands-requires c = record { received = c.requires.received; placed = c.requires.placed; places = ap (λ (u : Summed). u.places) c.requires.sums }
-
-pub returns : goal.returns
-returns c =
+pub returns-then-same : goal.returns-then-same
+returns-then-same c =
     let a = c.args in
     let e = ap (λ (u : Summed). u.check) c.requires.sums in
     let x = c.sep_of-x in
-    front_holds (take (a.to - a.d) (drop a.d a.s.now)) a.s.now a.to x.result (separator_there a.s.now a.d a.to a.end c.requires.placed.0 c.requires.placed.1 c.requires.placed.2 c.requires.placed.3 c.requires.received.symbols x.result (rw (← e) x.ensures)) (rw (← e) (sym c.stands_at.ensures ∙ c.if-not-stands_at.false)) _ c.syndrome_stands.ensures
+    front_holds (take (a.to - a.d) (drop a.d a.s.now)) a.s.now a.to x.result (separator_there a.s.now a.d a.to a.end c.requires.placed.0 c.requires.placed.1 c.requires.placed.2 c.requires.placed.3 c.requires.received.symbols x.result (rw (← e) x.ensures)) (rw (← e) (sym (four_symbols a.s.now a.to c.args.sums.check x.result (omega (arith, last_place _ _ _ c.requires.placed.0 c.requires.placed.2))) ∙ c.if-same.true)) _ c.syndrome_stands.ensures

@@ -1,14 +1,10 @@
 -- The proofs of what holds between the editions of a label.
 --   reads_as_before, turned_down, oldest, there_and_back, converted_once, too_large_first, apart
 --   converted_most   a label on the other side has at most 75 bytes
-use Rattle.std.specs.Prelude.{◌≡◌, refl, Bool, true, false, cond, ◌&&◌, List, [], ◌++◌, ℕ, ◌+◌, ◌*◌, ◌≤◌, eqb, ltb, length, take, drop}
+use Rattle.std.specs.Prelude.{Result, Ok, Err, ◌≡◌, refl, Bool, true, false, cond, ◌&&◌, List, [], ◌++◌, ℕ, ◌+◌, ◌*◌, ◌≤◌, eqb, ltb, length, take, drop}
 use Rattle.std.proofs.Common.{sym, ap, ◌∙◌, append-nil, arith, le-ltb, eq-eqb, ne_eqb, eqb-true, length-take-le}
 use Rattle.code.specs.declared.Refusal.{Refusal}
 use Rattle.code.specs.declared.Refusal.TheVariants.{ShortBuffer, TooLarge}
-use Rattle.code.specs.declared.Checked.{Checked}
-use Rattle.code.specs.declared.Checked.TheVariants.{Fine, Refused}
-use Rattle.code.specs.declared.Wrote.{Wrote}
-use Rattle.code.specs.declared.Wrote.TheVariants as W
 use Rattle.code.specs.Limits.{most_length, most_bytes, most_segments, old_length, old_bytes}
 use Rattle.code.specs.Symbols.{Below}
 use Rattle.code.specs.Order.{Order, order, test_within, order_test, Taken}
@@ -29,7 +25,7 @@ third_long : (label : List ℕ) → edition_of label ≡ 3 → Good label → 4 
 third_long label e h =
     let third_is : eqb (edition_of label) 3 ≡ true = rw e in
     let listed : lists (edition_of label) ≡ true = rw e in
-    let fine : Taken (order_of label) = sym (ap (λ (t : Bool). cond t (order_test (order_of label) false Fine) (test_within old_length old_bytes (order_of label) false Fine)) third_is) ∙ h.fine in
+    let fine : Taken (order_of label) = sym (ap (λ (t : Bool). cond t (order_test (order_of label) false (Ok tt)) (test_within old_length old_bytes (order_of label) false (Ok tt))) third_is) ∙ h.fine in
     let carried : order_of label ≡ order (lengths_in label) (bytes_in label) = rw listed in
     let long : needed label ≡ bytes_for (21 + 9 * count_in label) = rw e in
     let count : length (order_of label).lengths ≡ count_in label =
@@ -67,24 +63,24 @@ oldest =
     edition o t = ap edition_of (sym (append-nil (label_bytes o))) ∙ (label_Reads o [] t).edition
 
 -- the tests behind those of a label that is taken
-tests_behind : (label : List ℕ) (n : ℕ) → label_read_test label ≡ Fine → convert_test label n ≡ refuse (eqb (edition_of label) 3 && too_large (order_of label)) TooLarge (refuse (ltb n (length (converted label))) ShortBuffer Fine)
+tests_behind : (label : List ℕ) (n : ℕ) → label_read_test label ≡ Ok tt → convert_test label n ≡ refuse (eqb (edition_of label) 3 && too_large (order_of label)) TooLarge (refuse (ltb n (length (converted label))) ShortBuffer (Ok tt))
 tests_behind label n taken = rw taken
 
 pub converted_once : ConvertedOnce
 converted_once label n other taken room =
     tests_behind label n taken
-    ∙ (λ i. refuse (ne_eqb (edition_of label) 3 other i && too_large (order_of label)) TooLarge (refuse (le-ltb n (length (converted label)) room i) ShortBuffer Fine))
+    ∙ (λ i. refuse (ne_eqb (edition_of label) 3 other i && too_large (order_of label)) TooLarge (refuse (le-ltb n (length (converted label)) room i) ShortBuffer (Ok tt)))
 
 pub too_large_first : TooLargeFirst
 too_large_first label n e taken large =
-    tests_behind label n taken ∙ (λ i. refuse (eq-eqb (edition_of label) 3 e i && large i) TooLarge (refuse (ltb n (length (converted label))) ShortBuffer Fine))
+    tests_behind label n taken ∙ (λ i. refuse (eq-eqb (edition_of label) 3 e i && large i) TooLarge (refuse (ltb n (length (converted label))) ShortBuffer (Ok tt)))
 
-two_fine : (x y : Bool) (r s : Refusal) → refuse x r (refuse y s Fine) ≡ Fine → x ≡ false
+two_fine : (x y : Bool) (r s : Refusal) → refuse x r (refuse y s (Ok tt)) ≡ Ok tt → x ≡ false
 two_fine true y r s e = let n : ◌≡◌ {A = ℕ} 0 1 = cc in absurd (omega arith)
 two_fine false y r s e = refl
 
 -- a label on the other side has at most 75 bytes
-pub converted_most : (label : List ℕ) → label_read_test label ≡ Fine → length (converted label) ≤ 75
+pub converted_most : (label : List ℕ) → label_read_test label ≡ Ok tt → length (converted label) ≤ 75
 converted_most label taken = go (eqb (edition_of label) 3)
   where
     few : length (order_of label).lengths ≤ most_segments
@@ -95,27 +91,27 @@ converted_most label taken = go (eqb (edition_of label) 3)
     go false = listing_most 3 (order_of label) few
 
 -- what holds of a label that is converted: it is taken, and one of edition 3 is not too large
-converted_taken : (label : List ℕ) (n : ℕ) → convert_test label n ≡ Fine → (label_read_test label ≡ Fine) × ((eqb (edition_of label) 3 && too_large (order_of label)) ≡ false)
+converted_taken : (label : List ℕ) (n : ℕ) → convert_test label n ≡ Ok tt → (label_read_test label ≡ Ok tt) × ((eqb (edition_of label) 3 && too_large (order_of label)) ≡ false)
 converted_taken label n e = go (label_read_test label) refl
   where
-    go : (t : Checked) → label_read_test label ≡ t → (label_read_test label ≡ Fine) × ((eqb (edition_of label) 3 && too_large (order_of label)) ≡ false)
-    go Fine p = (p, two_fine (eqb (edition_of label) 3 && too_large (order_of label)) (ltb n (length (converted label))) TooLarge ShortBuffer (sym (tests_behind label n p) ∙ e))
-    go (Refused r) p = let q : Refused r ≡ Fine = ap (λ (t : Checked). unless_refused t (refuse (eqb (edition_of label) 3 && too_large (order_of label)) TooLarge (refuse (ltb n (length (converted label))) ShortBuffer Fine)) Refused) (sym p) ∙ e in let z : ◌≡◌ {A = ℕ} 0 1 = cc in absurd (omega arith)
+    go : (t : Result (Unit {0}) Refusal) → label_read_test label ≡ t → (label_read_test label ≡ Ok tt) × ((eqb (edition_of label) 3 && too_large (order_of label)) ≡ false)
+    go (Ok _) p = (p, two_fine (eqb (edition_of label) 3 && too_large (order_of label)) (ltb n (length (converted label))) TooLarge ShortBuffer (sym (tests_behind label n p) ∙ e))
+    go (Err r) p = let q : Err r ≡ (Ok tt) = ap (λ (t : Result (Unit {0}) Refusal). unless_refused t (refuse (eqb (edition_of label) 3 && too_large (order_of label)) TooLarge (refuse (ltb n (length (converted label))) ShortBuffer (Ok tt))) Err) (sym p) ∙ e in let z : ◌≡◌ {A = ℕ} 0 1 = cc in absurd (omega arith)
 
 -- a conversion that is taken
-convert_fine : (label out : List ℕ) → convert_test label (length out) ≡ Fine → convert_call label out ≡ (W.Bytes (length (converted label)), over_front (converted label) out)
+convert_fine : (label out : List ℕ) → convert_test label (length out) ≡ Ok tt → convert_call label out ≡ (Ok (length (converted label)), over_front (converted label) out)
 convert_fine label out e = rw e
 
 -- from a label m that carries the same order on the other side the bytes of the label come back
-back : (label m out : List ℕ) → Good label → converted m ≡ take (needed label) label → needed label ≤ length out → label_read_test m ≡ Fine → (eqb (edition_of m) 3 && too_large (order_of m)) ≡ false → convert_call m out ≡ (W.Bytes (needed label), over_front (take (needed label) label) out)
+back : (label m out : List ℕ) → Good label → converted m ≡ take (needed label) label → needed label ≤ length out → label_read_test m ≡ Ok tt → (eqb (edition_of m) 3 && too_large (order_of m)) ≡ false → convert_call m out ≡ (Ok (needed label), over_front (take (needed label) label) out)
 back label m out h same room taken small =
     let n : length (converted m) ≡ needed label = ap length same ∙ length-take-le (needed label) label h.room in
-    let t : convert_test m (length out) ≡ Fine =
-    tests_behind m (length out) taken ∙ (λ i. refuse (small i) TooLarge (refuse (le-ltb (length out) (length (converted m)) (omega (arith, n, room)) i) ShortBuffer Fine)) in
-    convert_fine m out t ∙ (λ i. (W.Bytes (n i), over_front (same i) out))
+    let t : convert_test m (length out) ≡ (Ok tt) =
+    tests_behind m (length out) taken ∙ (λ i. refuse (small i) TooLarge (refuse (le-ltb (length out) (length (converted m)) (omega (arith, n, room)) i) ShortBuffer (Ok tt))) in
+    convert_fine m out t ∙ (λ i. (Ok (n i), over_front (same i) out))
 
 -- there the label has edition 3 and the same order
-from_old : (label middle out : List ℕ) → Below 256 label → (edition_of label ≡ 3 → ⊥) → label_read_test label ≡ Fine → needed label ≤ length out → convert_call (over_front (converted label) middle) out ≡ (W.Bytes (needed label), over_front (take (needed label) label) out)
+from_old : (label middle out : List ℕ) → Below 256 label → (edition_of label ≡ 3 → ⊥) → label_read_test label ≡ Ok tt → needed label ≤ length out → convert_call (over_front (converted label) middle) out ≡ (Ok (needed label), over_front (take (needed label) label) out)
 from_old label middle out small other taken room =
     let o = order_of label in
     let h = label_Good label taken in
@@ -129,7 +125,7 @@ from_old label middle out small other taken room =
     ap (λ (u : List ℕ). convert_call (over_front u middle) out) listed ∙ back label m out h same room r.taken fits
 
 -- there it has an old edition and the same order
-from_third : (label middle out : List ℕ) → Below 256 label → edition_of label ≡ 3 → label_read_test label ≡ Fine → too_large (order_of label) ≡ false → needed label ≤ length out → convert_call (over_front (converted label) middle) out ≡ (W.Bytes (needed label), over_front (take (needed label) label) out)
+from_third : (label middle out : List ℕ) → Below 256 label → edition_of label ≡ 3 → label_read_test label ≡ Ok tt → too_large (order_of label) ≡ false → needed label ≤ length out → convert_call (over_front (converted label) middle) out ≡ (Ok (needed label), over_front (take (needed label) label) out)
 from_third label middle out small e taken not_too room =
     let o = order_of label in
     let h = label_Good label taken in
@@ -149,12 +145,12 @@ from_third label middle out small e taken not_too room =
     first_or_second false = refl
 
 pub there_and_back : ThereAndBack
-there_and_back label middle out small e room = ap (λ (p : Wrote × List ℕ). convert_call p.1 out) (convert_fine label middle e) ∙ go (eqb (edition_of label) 3) refl
+there_and_back label middle out small e room = ap (λ (p : Result ℕ Refusal × List ℕ). convert_call p.1 out) (convert_fine label middle e) ∙ go (eqb (edition_of label) 3) refl
   where
-    t : (label_read_test label ≡ Fine) × ((eqb (edition_of label) 3 && too_large (order_of label)) ≡ false)
+    t : (label_read_test label ≡ Ok tt) × ((eqb (edition_of label) 3 && too_large (order_of label)) ≡ false)
     t = converted_taken label (length middle) e
 
-    go : (third : Bool) → eqb (edition_of label) 3 ≡ third → convert_call (over_front (converted label) middle) out ≡ (W.Bytes (needed label), over_front (take (needed label) label) out)
+    go : (third : Bool) → eqb (edition_of label) 3 ≡ third → convert_call (over_front (converted label) middle) out ≡ (Ok (needed label), over_front (take (needed label) label) out)
     go true p = from_third label middle out small (eqb-true (edition_of label) 3 p) t.0 (ap (λ (b : Bool). b && too_large (order_of label)) (sym p) ∙ t.1) room
     go false p = from_old label middle out small (λ q. differ (sym p ∙ eq-eqb (edition_of label) 3 q)) t.0 room
       where

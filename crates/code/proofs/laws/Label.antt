@@ -10,12 +10,11 @@
 --   needed_least, end_most, needed_most   how many bits and bytes a label has
 --   order_in_lem                          an answer holds its order
 --   labelled_inside, label_inside         its lengths stand in its array
-use Rattle.std.specs.Prelude.{◌≡◌, refl, Bool, true, false, cond, not, ◌&&◌, ◌||◌, List, [], ◌∷◌, ℕ, zero, suc, ◌+◌, ◌-◌, ◌*◌, ◌/◌, ◌^◌, ◌≤◌, eqb, ltb, length, get_or, drop, replicate}
+use Rattle.std.specs.Prelude.{Result, Ok, Err, ◌≡◌, refl, Bool, true, false, cond, not, ◌&&◌, ◌||◌, List, [], ◌∷◌, ℕ, zero, suc, ◌+◌, ◌-◌, ◌*◌, ◌/◌, ◌^◌, ◌≤◌, eqb, ltb, length, get_or, drop, replicate, IfOk}
+use Rattle.code.specs.declared.Refusal.{Refusal}
 use Rattle.std.proofs.Common.{sym, ap, ◌∙◌, mul-le-mul, arith, le-ltb, eq-eqb, ltb-false, eqb-true, length-append, take_at}
 use Rattle.std.proofs.Math.Nat.{div-eq_of_eq-mul_left}
 use Rattle.std.proofs.lemmas.List.{length-replicate, get_or-replicate}
-use Rattle.code.specs.declared.Checked.{Checked}
-use Rattle.code.specs.declared.Checked.TheVariants.{Fine, Refused}
 use Rattle.code.specs.Limits.{most_segments, most_length, most_bytes, old_length, old_bytes}
 use Rattle.code.specs.Symbols.{Below}
 use Rattle.code.specs.Layers.{Word}
@@ -59,15 +58,15 @@ Lengths-first [] done h = absurd (omega arith)
 Lengths-first (k ∷ ks) (more l m h) e = (l, m)
 
 -- an order within the limits of an edition is within those of the calls
-pub edition_Ordered : (e : ℕ) (o : Order) → test_in e o ≡ Fine → Ordered o false
+pub edition_Ordered : (e : ℕ) (o : Order) → test_in e o ≡ Ok tt → Ordered o false
 edition_Ordered e o fine = go (eqb e 3) fine
   where
-    go : (t : Bool) → cond t (order_test o false Fine) (test_within old_length old_bytes o false Fine) ≡ Fine → Ordered o false
+    go : (t : Bool) → cond t (order_test o false (Ok tt)) (test_within old_length old_bytes o false (Ok tt)) ≡ Ok tt → Ordered o false
     go true f = order_fine o false f
     go false f = Within-more old_length old_bytes most_length most_bytes o (omega arith) (omega arith) (fine_Within old_length old_bytes o false f)
 
 -- an order within the limits of an edition that lists its lengths fits its fields
-pub Fits-in : (e : ℕ) (o : Order) → lists e ≡ true → test_in e o ≡ Fine → Fits e o
+pub Fits-in : (e : ℕ) (o : Order) → lists e ≡ true → test_in e o ≡ Ok tt → Fits e o
 Fits-in e o listed fine = go (eqb e 2) (eqb e 3) refl refl listed
   where
     fits2 : Within old_length old_bytes o false → Fits 2 o
@@ -182,16 +181,16 @@ needed_most label = go (lists (edition_of label))
 -- An order by value
 
 -- an answer holds its order
-pub order_in_lem : (t : Checked) (o : Order) → order_in (labelled t o) ≡ o
-order_in_lem t o = ap (λ (ks : List ℕ). order ks o.b) (take_at o.lengths _ (length o.lengths) refl)
+pub order_in_lem : (o : Order) → order_in (labelled o) ≡ o
+order_in_lem o = ap (λ (ks : List ℕ). order ks o.b) (take_at o.lengths _ (length o.lengths) refl)
 
 -- its lengths stand in its array
-pub labelled_inside : (t : Checked) (o : Order) → (labelled t o).count ≤ length (labelled t o).lengths
-labelled_inside t o = simp length-append (omega arith)
+pub labelled_inside : (o : Order) → (labelled o).count ≤ length (labelled o).lengths
+labelled_inside o = simp length-append (omega arith)
 
-pub label_inside : (label : List ℕ) → (label_read label).count ≤ length (label_read label).lengths
+pub label_inside : (label : List ℕ) → IfOk (label_read label) (λ l. l.count ≤ length l.lengths)
 label_inside label = go (label_read_test label) refl
   where
-    go : (t : Checked) → label_read_test label ≡ t → (label_read label).count ≤ length (label_read label).lengths
-    go Fine e = rw e (labelled_inside Fine (order_of label))
-    go (Refused r) e = rw e (labelled_inside (Refused r) (order [] 0))
+    go : (t : Result (Unit {0}) Refusal) → label_read_test label ≡ t → IfOk (label_read label) (λ l. l.count ≤ length l.lengths)
+    go (Ok _) e = rw e (labelled_inside (order_of label))
+    go (Err r) e = rw e tt

@@ -3,14 +3,12 @@
 --   old_fine                one of an old edition carries an order within the old limits
 --   Edition, Edition-of     the editions of labels that are taken
 --   label_back, third_back  its bytes are those of its order's label, in an old edition or in edition 3
-use Rattle.std.specs.Prelude.{◌≡◌, refl, Bool, true, false, cond, not, ◌&&◌, ◌||◌, List, ℕ, ◌+◌, ◌-◌, ◌*◌, ◌/◌, ◌≤◌, eqb, ltb, length, get_or, take, drop}
+use Rattle.std.specs.Prelude.{Result, Ok, ◌≡◌, refl, Bool, true, false, cond, not, ◌&&◌, ◌||◌, List, ℕ, ◌+◌, ◌-◌, ◌*◌, ◌/◌, ◌≤◌, eqb, ltb, length, get_or, take, drop}
 use Rattle.std.proofs.Common.{sym, ap, ◌∙◌, arith, ne_eqb, ltb-false, eqb-true}
 use Rattle.std.proofs.lemmas.Bool.{not-false}
 use Rattle.std.proofs.lemmas.List.{length-replicate, get_or-replicate}
 use Rattle.code.specs.declared.Refusal.{Refusal}
 use Rattle.code.specs.declared.Refusal.TheVariants.{ShortBuffer, Label}
-use Rattle.code.specs.declared.Checked.{Checked}
-use Rattle.code.specs.declared.Checked.TheVariants.{Fine}
 use Rattle.code.specs.Limits.{most_segments, old_length, old_bytes}
 use Rattle.code.specs.Symbols.{Below}
 use Rattle.code.specs.Refusals.{refuse}
@@ -22,7 +20,7 @@ use Rattle.code.proofs.laws.LabelFields.{length-edition1, length-listing, editio
 use Rattle.code.specs.Label.{in_bits, bytes_for, spare, in_bytes, equal, edition1, length_bits, listing, old_bits, field, edition_of, length_in, bytes_in1, lists, bytes_in, count_in, lengths_at, end_of_lengths, lengths_in, needed, repeated, order_of, bad1, bad_end, bad_label, test_in, label_read_test}
 use Rattle.code.proofs.laws.Label.{equal-replicate, bits_equal, bits_other}
 
-two_fine : (x y : Bool) (r s : Refusal) (t : Checked) → refuse x r (refuse y s t) ≡ Fine → (x ≡ false) × (y ≡ false) × (t ≡ Fine)
+two_fine : (x y : Bool) (r s : Refusal) (t : Result (Unit {0}) Refusal) → refuse x r (refuse y s t) ≡ Ok tt → (x ≡ false) × (y ≡ false) × (t ≡ Ok tt)
 two_fine true y r s t e = let n : ◌≡◌ {A = ℕ} 0 1 = cc in absurd (omega arith)
 two_fine false true r s t e = let n : ◌≡◌ {A = ℕ} 0 1 = cc in absurd (omega arith)
 two_fine false false r s t e = (refl, refl, e)
@@ -31,18 +29,18 @@ two_fine false false r s t e = (refl, refl, e)
 pub record Good (label : List ℕ) : Type 0 where
   pub room : needed label ≤ length label
   pub good : bad_label label ≡ false
-  pub fine : test_in (edition_of label) (order_of label) ≡ Fine
+  pub fine : test_in (edition_of label) (order_of label) ≡ Ok tt
 
-pub label_Good : (label : List ℕ) → label_read_test label ≡ Fine → Good label
+pub label_Good : (label : List ℕ) → label_read_test label ≡ Ok tt → Good label
 label_Good label e =
     let p = two_fine (ltb (length label) (needed label)) (bad_label label) ShortBuffer Label (test_in (edition_of label) (order_of label)) e in
     record { room = ltb-false (length label) (needed label) p.0; good = p.1; fine = p.2 }
 
 -- a label of an old edition carries an order within the old limits
-pub old_fine : (label : List ℕ) → (edition_of label ≡ 3 → ⊥) → Good label → test_within old_length old_bytes (order_of label) false Fine ≡ Fine
+pub old_fine : (label : List ℕ) → (edition_of label ≡ 3 → ⊥) → Good label → test_within old_length old_bytes (order_of label) false (Ok tt) ≡ Ok tt
 old_fine label other h =
     let o = order_of label in
-    sym (ap (λ (t : Bool). cond t (order_test o false Fine) (test_within old_length old_bytes o false Fine)) (ne_eqb (edition_of label) 3 other)) ∙ h.fine
+    sym (ap (λ (t : Bool). cond t (order_test o false (Ok tt)) (test_within old_length old_bytes o false (Ok tt))) (ne_eqb (edition_of label) 3 other)) ∙ h.fine
 
 module _ (bs : List ℕ) (small : Below 256 bs) (h : Good bs) where
   -- the bytes of a label that lists its lengths are those of a listing of its order
@@ -72,7 +70,7 @@ module _ (bs : List ℕ) (small : Below 256 bs) (h : Good bs) where
       let n : needed bs ≡ 4 = rw unlisted in
       let spare_of : bad1 bs ≡ false = rw (unlisted, known) at h.good in
       let behind : field 19 13 bs ≡ 0 = eqb-true (field 19 13 bs) 0 (not-false _ spare_of) in
-      let fine : test_within old_length old_bytes (order_of bs) false Fine ≡ Fine = old_fine bs (λ f. omega (arith, e, f)) h in
+      let fine : test_within old_length old_bytes (order_of bs) false (Ok tt) ≡ Ok tt = old_fine bs (λ f. omega (arith, e, f)) h in
       let times = 1 + (4 * b / k - 1) in
       let few : times ≤ most_segments = omega (arith, (fine_Within old_length old_bytes (order_of bs) false fine).segments_fit, ap (λ (o : Order). length o.lengths) carried, length-replicate times k) in
       let same : get_or (repeated k b) 0 0 ≡ k = get_or-replicate times 0 k 0 (omega arith) in
@@ -110,7 +108,7 @@ Edition-of label h = go (eqb (edition_of label) 1) (eqb (edition_of label) 2) (e
     go false false false e f g = let bad : ◌≡◌ {A = Bool} true false = ap (λ (t : Bool). not t || bad1 label) (sym e) ∙ ap (λ (t : Bool). cond t (bad_end label || (eqb (edition_of label) 2 && equal (lengths_in label))) (not (eqb (edition_of label) 1) || bad1 label)) (sym (unlisted f g)) ∙ h.good in let n : ◌≡◌ {A = ℕ} 0 1 = cc in absurd (omega arith)
 
 -- what is taken as a label of an old edition is its order's label in those
-pub label_back : (bs : List ℕ) → Below 256 bs → label_read_test bs ≡ Fine → (edition_of bs ≡ 3 → ⊥) → take (needed bs) bs ≡ in_bytes (old_bits (order_of bs))
+pub label_back : (bs : List ℕ) → Below 256 bs → label_read_test bs ≡ Ok tt → (edition_of bs ≡ 3 → ⊥) → take (needed bs) bs ≡ in_bytes (old_bits (order_of bs))
 label_back bs small e other = go (Edition-of bs h)
   where
     h : Good bs
@@ -122,5 +120,5 @@ label_back bs small e other = go (Edition-of bs h)
     go (third f) = absurd (other f)
 
 -- what is taken as a label of edition 3 is its order's label in that one
-pub third_back : (bs : List ℕ) → Below 256 bs → label_read_test bs ≡ Fine → edition_of bs ≡ 3 → take (needed bs) bs ≡ in_bytes (listing 3 (order_of bs))
+pub third_back : (bs : List ℕ) → Below 256 bs → label_read_test bs ≡ Ok tt → edition_of bs ≡ 3 → take (needed bs) bs ≡ in_bytes (listing 3 (order_of bs))
 third_back bs small e f = listing_same bs small (label_Good bs e) (rw f) ∙ ap (λ (n : ℕ). in_bytes (listing n (order_of bs))) f

@@ -4,9 +4,8 @@
 --   oldest_for, label_Reads                                  so is the label of an order, in the oldest edition that carries it
 --   label_Taken, label_order, label_read_lem, label_needed   by parts
 --   listing_most, old_most, label_most                       at most 75 bytes are written
-use Rattle.std.specs.Prelude.{◌≡◌, refl, Bool, true, false, cond, ◌&&◌, List, ◌++◌, ℕ, ◌+◌, ◌*◌, ◌≤◌, eqb, length, get_or, replicate}
+use Rattle.std.specs.Prelude.{Ok, ◌≡◌, refl, Bool, true, false, cond, ◌&&◌, List, ◌++◌, ℕ, ◌+◌, ◌*◌, ◌≤◌, eqb, length, get_or, replicate}
 use Rattle.std.proofs.Common.{sym, ap, ◌∙◌, append_assoc, mul-le-mul, arith, le-ltb, length-append}
-use Rattle.code.specs.declared.Checked.TheVariants.{Fine}
 use Rattle.code.specs.Limits.{most_segments, most_length, most_bytes, old_length, old_bytes}
 use Rattle.code.specs.Layers.{Word}
 use Rattle.code.specs.Order.{Order, order, Taken}
@@ -25,10 +24,10 @@ pub record Reads (e : ℕ) (o : Order) (n : ℕ) (label : List ℕ) : Type 0 whe
   pub edition : edition_of label ≡ e
   pub carried : order_of label ≡ o
   pub long : needed label ≡ n
-  pub taken : label_read_test label ≡ Fine
+  pub taken : label_read_test label ≡ Ok tt
 
 -- nothing is against a label as its edition lays it out, if its order is within the limits of that edition
-reads : (e : ℕ) (o : Order) (w : Word) (rest : List ℕ) → edition_of (in_bytes w ++ rest) ≡ e → order_of (in_bytes w ++ rest) ≡ o → needed (in_bytes w ++ rest) ≡ length (in_bytes w) → bad_label (in_bytes w ++ rest) ≡ false → test_in e o ≡ Fine → Reads e o (length (in_bytes w)) (in_bytes w ++ rest)
+reads : (e : ℕ) (o : Order) (w : Word) (rest : List ℕ) → edition_of (in_bytes w ++ rest) ≡ e → order_of (in_bytes w ++ rest) ≡ o → needed (in_bytes w ++ rest) ≡ length (in_bytes w) → bad_label (in_bytes w ++ rest) ≡ false → test_in e o ≡ Ok tt → Reads e o (length (in_bytes w)) (in_bytes w ++ rest)
 reads e o w rest edition carried long good fine =
     let label = in_bytes w ++ rest in
     let room : needed label ≤ length label = omega (arith, long, length-append (in_bytes w) rest) in
@@ -55,7 +54,7 @@ Reads-first o rest h e =
     (Within-fine old_length old_bytes o h)
 
 -- a label that lists its lengths
-Reads-listing : (e : ℕ) (o : Order) (rest : List ℕ) → lists e ≡ true → (eqb e 2 && equal o.lengths) ≡ false → test_in e o ≡ Fine → Reads e o (length (in_bytes (listing e o))) (in_bytes (listing e o) ++ rest)
+Reads-listing : (e : ℕ) (o : Order) (rest : List ℕ) → lists e ≡ true → (eqb e 2 && equal o.lengths) ≡ false → test_in e o ≡ Ok tt → Reads e o (length (in_bytes (listing e o))) (in_bytes (listing e o) ++ rest)
 Reads-listing e o rest listed other fine =
     let label = in_bytes (listing e o) ++ rest in
     let f = fields_Listed label e o (in_bits 8 rest) (Fits-in e o listed fine) (label_bits_lem (listing e o) rest) in
@@ -94,13 +93,13 @@ label_Reads o rest t = go (too_large o) refl
     go true e = rw e (Reads-third o rest (order_fine o false t))
     go false e = rw e (Reads-old o rest (Within-old o (order_fine o false t) e))
 
-pub label_Taken : (o : Order) (rest : List ℕ) → Taken o → label_read_test (label_bytes o ++ rest) ≡ Fine
+pub label_Taken : (o : Order) (rest : List ℕ) → Taken o → label_read_test (label_bytes o ++ rest) ≡ Ok tt
 label_Taken o rest t = (label_Reads o rest t).taken
 
 pub label_order : (o : Order) (rest : List ℕ) → Taken o → order_of (label_bytes o ++ rest) ≡ o
 label_order o rest t = (label_Reads o rest t).carried
 
-pub label_read_lem : (o : Order) (rest : List ℕ) → Taken o → label_read (label_bytes o ++ rest) ≡ labelled Fine o
+pub label_read_lem : (o : Order) (rest : List ℕ) → Taken o → label_read (label_bytes o ++ rest) ≡ Ok (labelled o)
 label_read_lem o rest t = rw (label_Taken o rest t, label_order o rest t)
 
 -- it needs the bytes that were written

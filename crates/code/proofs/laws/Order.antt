@@ -8,13 +8,11 @@
 --   Within-more                          it is taken by larger limits too
 --   order_then                           a further test behind those of an order that is taken
 --   order_refused                        a further test behind those of an order that is refused
-use Rattle.std.specs.Prelude.{◌≡◌, refl, Bool, true, false, not, ◌||◌, List, [], ◌∷◌, ℕ, ◌*◌, ◌≤◌, eqb, length}
+use Rattle.std.specs.Prelude.{Result, Ok, Err, ◌≡◌, refl, Bool, true, false, not, ◌||◌, List, [], ◌∷◌, ℕ, ◌*◌, ◌≤◌, eqb, length}
 use Rattle.std.proofs.Common.{arith, le-ltb, eq-eqb, eqb-true}
 use Rattle.std.proofs.lemmas.Bool.{not-false}
 use Rattle.code.specs.declared.Refusal.{Refusal}
 use Rattle.code.specs.declared.Refusal.TheVariants.{SegmentLength, MessageSize, Cut}
-use Rattle.code.specs.declared.Checked.{Checked}
-use Rattle.code.specs.declared.Checked.TheVariants.{Fine, Refused}
 use Rattle.code.specs.Limits.{least_length, most_length, most_bytes, most_segments}
 use Rattle.code.specs.Refusals.{refuse, outside}
 use Rattle.code.proofs.laws.Refusals.{or-false, outside_not}
@@ -42,14 +40,14 @@ cut_not o e =
     (q.0, q.1, eqb-true (sum o.lengths) (4 * o.b) (not-false _ p.1))
 
 -- the first of the tests 1, 2 and 3 that is met tells the refusal
-module _ (long many : ℕ) (o : Order) (other : Bool) (next : Checked) where
-  pub order_length : bad_length long o.lengths ≡ true → test_within long many o other next ≡ Refused SegmentLength
+module _ (long many : ℕ) (o : Order) (other : Bool) (next : Result (Unit {0}) Refusal) where
+  pub order_length : bad_length long o.lengths ≡ true → test_within long many o other next ≡ Err SegmentLength
   order_length e = rw e
 
-  pub order_size : bad_length long o.lengths ≡ false → (outside 1 many o.b || other) ≡ true → test_within long many o other next ≡ Refused MessageSize
+  pub order_size : bad_length long o.lengths ≡ false → (outside 1 many o.b || other) ≡ true → test_within long many o other next ≡ Err MessageSize
   order_size e f = rw (e, f)
 
-  pub order_cut : bad_length long o.lengths ≡ false → (outside 1 many o.b || other) ≡ false → bad_cut o ≡ true → test_within long many o other next ≡ Refused Cut
+  pub order_cut : bad_length long o.lengths ≡ false → (outside 1 many o.b || other) ≡ false → bad_cut o ≡ true → test_within long many o other next ≡ Err Cut
   order_cut e f g = rw (e, f, g)
 
 -- what holds of an order that is taken, where a length is at most `long` and B at most `many`
@@ -66,13 +64,13 @@ pub record Within (long many : ℕ) (o : Order) (other : Bool) : Type 0 where
 abbrev pub Ordered : Order → Bool → Type 0
 Ordered o other = Within most_length most_bytes o other
 
-three_fine : (x y z : Bool) (r s t : Refusal) → refuse x r (refuse y s (refuse z t Fine)) ≡ Fine → (x ≡ false) × (y ≡ false) × (z ≡ false)
+three_fine : (x y z : Bool) (r s t : Refusal) → refuse x r (refuse y s (refuse z t (Ok tt))) ≡ Ok tt → (x ≡ false) × (y ≡ false) × (z ≡ false)
 three_fine true y z r s t e = let n : ◌≡◌ {A = ℕ} 0 1 = cc in absurd (omega arith)
 three_fine false true z r s t e = let n : ◌≡◌ {A = ℕ} 0 1 = cc in absurd (omega arith)
 three_fine false false true r s t e = let n : ◌≡◌ {A = ℕ} 0 1 = cc in absurd (omega arith)
 three_fine false false false r s t e = (refl, refl, refl)
 
-pub fine_Within : (long many : ℕ) (o : Order) (other : Bool) → test_within long many o other Fine ≡ Fine → Within long many o other
+pub fine_Within : (long many : ℕ) (o : Order) (other : Bool) → test_within long many o other (Ok tt) ≡ Ok tt → Within long many o other
 fine_Within long many o other e =
     let p = three_fine (bad_length long o.lengths) (outside 1 many o.b || other) (bad_cut o) SegmentLength MessageSize Cut e in
     let q = or-false (outside 1 many o.b) other p.1 in
@@ -88,11 +86,11 @@ fine_Within long many o other e =
       whole = cut_of.2;
     }
 
-pub order_fine : (o : Order) (other : Bool) → order_test o other Fine ≡ Fine → Ordered o other
+pub order_fine : (o : Order) (other : Bool) → order_test o other (Ok tt) ≡ Ok tt → Ordered o other
 order_fine o other e = fine_Within most_length most_bytes o other e
 
 -- what holds of an order that is taken is enough
-pub Within-fine : (long many : ℕ) (o : Order) → Within long many o false → test_within long many o false Fine ≡ Fine
+pub Within-fine : (long many : ℕ) (o : Order) → Within long many o false → test_within long many o false (Ok tt) ≡ Ok tt
 Within-fine long many o h =
     let ks = o.lengths in
     let bytes_of : (outside 1 many o.b || false) ≡ false = rw (le-ltb o.b 1 h.some_bytes, le-ltb many o.b h.bytes_fit) in
@@ -113,18 +111,18 @@ Within-more long many longer more_many o l m h =
     }
 
 -- a further test behind three that are not met
-three_then : (x y z : Bool) (r s t : Refusal) (next : Checked) → refuse x r (refuse y s (refuse z t Fine)) ≡ Fine → refuse x r (refuse y s (refuse z t next)) ≡ next
+three_then : (x y z : Bool) (r s t : Refusal) (next : Result (Unit {0}) Refusal) → refuse x r (refuse y s (refuse z t (Ok tt))) ≡ Ok tt → refuse x r (refuse y s (refuse z t next)) ≡ next
 three_then x y z r s t next e = let p = three_fine x y z r s t e in rw (p.0, p.1, p.2)
 
 -- a further test behind three of which one is met
-three_refused : (x y z : Bool) (r s t u : Refusal) (next : Checked) → refuse x r (refuse y s (refuse z t Fine)) ≡ Refused u → refuse x r (refuse y s (refuse z t next)) ≡ Refused u
+three_refused : (x y z : Bool) (r s t u : Refusal) (next : Result (Unit {0}) Refusal) → refuse x r (refuse y s (refuse z t (Ok tt))) ≡ Err u → refuse x r (refuse y s (refuse z t next)) ≡ Err u
 three_refused true y z r s t u next e = e
 three_refused false true z r s t u next e = e
 three_refused false false true r s t u next e = e
 three_refused false false false r s t u next e = let n : ◌≡◌ {A = ℕ} 0 1 = cc in absurd (omega arith)
 
-pub order_then : (o : Order) (other : Bool) (next : Checked) → order_test o other Fine ≡ Fine → order_test o other next ≡ next
+pub order_then : (o : Order) (other : Bool) (next : Result (Unit {0}) Refusal) → order_test o other (Ok tt) ≡ Ok tt → order_test o other next ≡ next
 order_then o other next e = three_then (bad_length most_length o.lengths) (outside 1 most_bytes o.b || other) (bad_cut o) SegmentLength MessageSize Cut next e
 
-pub order_refused : (o : Order) (other : Bool) (u : Refusal) (next : Checked) → order_test o other Fine ≡ Refused u → order_test o other next ≡ Refused u
+pub order_refused : (o : Order) (other : Bool) (u : Refusal) (next : Result (Unit {0}) Refusal) → order_test o other (Ok tt) ≡ Err u → order_test o other next ≡ Err u
 order_refused o other u next e = three_refused (bad_length most_length o.lengths) (outside 1 most_bytes o.b || other) (bad_cut o) SegmentLength MessageSize Cut u next e

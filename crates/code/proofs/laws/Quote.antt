@@ -1,10 +1,8 @@
 -- What a quote answers is right: the proof of Quote.antt.
-use Rattle.std.specs.Prelude.{◌≡◌, refl, false, List, ℕ, ◌*◌, length}
+use Rattle.std.specs.Prelude.{Result, Ok, Err, ◌≡◌, refl, false, List, ℕ, ◌*◌, length}
+use Rattle.code.specs.declared.Refusal.{Refusal}
 use Rattle.std.proofs.Common.{sym, ap, ◌∙◌, arith}
 use Rattle.std.proofs.lemmas.List.{length-map}
-use Rattle.code.specs.declared.Checked.{Checked}
-use Rattle.code.specs.declared.Checked.TheVariants as C
-use Rattle.code.specs.declared.Quoted.TheVariants.{Numbers, Refused}
 use Rattle.code.specs.Limits.{most_length}
 use Rattle.code.specs.Refusals.{unless_refused}
 use Rattle.code.specs.Order.{Order, order_test, Taken}
@@ -36,8 +34,8 @@ of_Taken o n taken =
     }
 
 pub quoted_right : QuotedRight
-quoted_right o n q e = go (order_test o false C.Fine) refl e
+quoted_right o n q e = go (order_test o false (Ok tt)) refl e
   where
-    go : (c : Checked) → order_test o false C.Fine ≡ c → unless_refused c (Numbers (quote_of o n)) Refused ≡ Numbers q → Right o n q
-    go C.Fine t d = let i : quote_of o n ≡ q = cc in rw (← i) (of_Taken o n t)
-    go (C.Refused r) t d = let z : ◌≡◌ {A = ℕ} 0 1 = cc in absurd (omega arith)
+    go : (c : Result (Unit {0}) Refusal) → order_test o false (Ok tt) ≡ c → unless_refused c (Ok (quote_of o n)) Err ≡ Ok q → Right o n q
+    go (Ok _) t d = let i : quote_of o n ≡ q = cc in rw (← i) (of_Taken o n t)
+    go (Err r) t d = let z : ◌≡◌ {A = ℕ} 0 1 = cc in absurd (omega arith)

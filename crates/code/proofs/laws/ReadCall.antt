@@ -8,7 +8,7 @@
 --   length_sheet                              the bytes of a sheet
 --   piece_inside                              a piece lies inside the caller's letters
 --   piece_letters                             its letters are those of the outcome's piece
-use Rattle.std.specs.Prelude.{◌≡◌, refl, Bool, true, false, List, [], ◌∷◌, ◌++◌, map, ℕ, zero, suc, ◌+◌, ◌-◌, ◌*◌, ◌/◌, ◌%◌, ◌≤◌, length, get_or, take, drop, replicate}
+use Rattle.std.specs.Prelude.{Result, Ok, Err, ◌≡◌, refl, Bool, true, false, List, [], ◌∷◌, ◌++◌, map, ℕ, zero, suc, ◌+◌, ◌-◌, ◌*◌, ◌/◌, ◌%◌, ◌≤◌, length, get_or, take, drop, replicate}
 use Rattle.std.proofs.Common.{sym, ap, ◌∙◌, arith, ltb-false, le-ltb, length-append, take_at}
 use Rattle.std.proofs.lemmas.List.{length-replicate}
 use Rattle.std.proofs.Math.Seq.{drop-append-add}
@@ -16,8 +16,6 @@ use Rattle.code.specs.declared.Decoded.{Decoded}
 use Rattle.code.specs.declared.Decoded.TheVariants as D
 use Rattle.code.specs.declared.Refusal.{Refusal}
 use Rattle.code.specs.declared.Refusal.TheVariants.{Overlong, ShortBuffer, ForeignLetter, NoSuchSegment}
-use Rattle.code.specs.declared.Checked.{Checked}
-use Rattle.code.specs.declared.Checked.TheVariants.{Fine, Refused}
 use Rattle.code.specs.Symbols.{letter_of, letters, legible, decoded}
 use Rattle.code.proofs.laws.Symbols.{whole_letters, whole_length, length-bytes}
 use Rattle.code.specs.Layout.{sum, joined}
@@ -31,77 +29,77 @@ use Rattle.code.specs.ReadCall.{foreign_test, overlong, received_test, short_buf
 
 -- Tests 1 to 4
 
-fine : (x : Bool) (r : Refusal) → refuse x r Fine ≡ Fine → x ≡ false
+fine : (x : Bool) (r : Refusal) → refuse x r (Ok tt) ≡ Ok tt → x ≡ false
 fine true r e = let z : ◌≡◌ {A = ℕ} 0 1 = cc in absurd (omega arith)
 fine false r e = refl
 
-refused : (x : Bool) (r u : Refusal) (next : Checked) → refuse x r Fine ≡ Refused u → refuse x r next ≡ Refused u
+refused : (x : Bool) (r u : Refusal) (next : Result (Unit {0}) Refusal) → refuse x r (Ok tt) ≡ Err u → refuse x r next ≡ Err u
 refused true r u next e = e
 refused false r u next e = let z : ◌≡◌ {A = ℕ} 0 1 = cc in absurd (omega arith)
 
 module _ (o : Order) (n : ℕ) where
   -- what holds of letters that tests 1 to 4 take
-  pub received_fine : received_test o n Fine ≡ Fine → (Taken o) × (n ≤ most_letters)
-  received_fine e = go (order_test o false Fine) refl
+  pub received_fine : received_test o n (Ok tt) ≡ Ok tt → (Taken o) × (n ≤ most_letters)
+  received_fine e = go (order_test o false (Ok tt)) refl
     where
-      go : (c : Checked) → order_test o false Fine ≡ c → (Taken o) × (n ≤ most_letters)
-      go Fine p = (p, ltb-false most_letters n (fine (overlong n) Overlong (sym (order_then o false (refuse (overlong n) Overlong Fine) p) ∙ e)))
-      go (Refused u) p = let q : Fine ≡ Refused u = sym e ∙ order_refused o false u (refuse (overlong n) Overlong Fine) p in let z : ◌≡◌ {A = ℕ} 0 1 = cc in absurd (omega arith)
+      go : (c : Result (Unit {0}) Refusal) → order_test o false (Ok tt) ≡ c → (Taken o) × (n ≤ most_letters)
+      go (Ok _) p = (p, ltb-false most_letters n (fine (overlong n) Overlong (sym (order_then o false (refuse (overlong n) Overlong (Ok tt)) p) ∙ e)))
+      go (Err u) p = let q : (Ok tt) ≡ Err u = sym e ∙ order_refused o false u (refuse (overlong n) Overlong (Ok tt)) p in let z : ◌≡◌ {A = ℕ} 0 1 = cc in absurd (omega arith)
 
-  pub fine_received : Taken o → n ≤ most_letters → received_test o n Fine ≡ Fine
-  fine_received t h = order_then o false (refuse (overlong n) Overlong Fine) t ∙ rw (le-ltb most_letters n h)
+  pub fine_received : Taken o → n ≤ most_letters → received_test o n (Ok tt) ≡ Ok tt
+  fine_received t h = order_then o false (refuse (overlong n) Overlong (Ok tt)) t ∙ rw (le-ltb most_letters n h)
 
   -- a further test behind tests 1 to 4 that are not met
-  pub received_then : (next : Checked) → received_test o n Fine ≡ Fine → received_test o n next ≡ next
+  pub received_then : (next : Result (Unit {0}) Refusal) → received_test o n (Ok tt) ≡ Ok tt → received_test o n next ≡ next
   received_then next e =
       let p = received_fine e in
       order_then o false (refuse (overlong n) Overlong next) p.0 ∙ rw (le-ltb most_letters n p.1)
 
   -- a further test behind tests 1 to 4 of which one is met
-  pub received_refused : (u : Refusal) (next : Checked) → received_test o n Fine ≡ Refused u → received_test o n next ≡ Refused u
-  received_refused u next e = go (order_test o false Fine) refl
+  pub received_refused : (u : Refusal) (next : Result (Unit {0}) Refusal) → received_test o n (Ok tt) ≡ Err u → received_test o n next ≡ Err u
+  received_refused u next e = go (order_test o false (Ok tt)) refl
     where
-      go : (c : Checked) → order_test o false Fine ≡ c → received_test o n next ≡ Refused u
-      go Fine p = order_then o false (refuse (overlong n) Overlong next) p ∙ refused (overlong n) Overlong u next (sym (order_then o false (refuse (overlong n) Overlong Fine) p) ∙ e)
-      go (Refused v) p = order_refused o false v (refuse (overlong n) Overlong next) p ∙ (sym (order_refused o false v (refuse (overlong n) Overlong Fine) p) ∙ e)
+      go : (c : Result (Unit {0}) Refusal) → order_test o false (Ok tt) ≡ c → received_test o n next ≡ Err u
+      go (Ok _) p = order_then o false (refuse (overlong n) Overlong next) p ∙ refused (overlong n) Overlong u next (sym (order_then o false (refuse (overlong n) Overlong (Ok tt)) p) ∙ e)
+      go (Err v) p = order_refused o false v (refuse (overlong n) Overlong next) p ∙ (sym (order_refused o false v (refuse (overlong n) Overlong (Ok tt)) p) ∙ e)
 
 -- The tests behind 1 to 4, in their order
 
-module _ (o : Order) (cs : List ℕ) (received : received_test o (length cs) Fine ≡ Fine) where
+module _ (o : Order) (cs : List ℕ) (received : received_test o (length cs) (Ok tt) ≡ Ok tt) where
   module _ (n m : ℕ) where
-    pub read_short : short_buffers o n m ≡ true → read_test o cs n m ≡ Refused ShortBuffer
+    pub read_short : short_buffers o n m ≡ true → read_test o cs n m ≡ Err ShortBuffer
     read_short e = received_then o (length cs) _ received ∙ rw e
 
-    pub read_foreign : (i : ℕ) → short_buffers o n m ≡ false → decoded cs ≡ D.Foreign i → read_test o cs n m ≡ Refused (ForeignLetter i)
+    pub read_foreign : (i : ℕ) → short_buffers o n m ≡ false → decoded cs ≡ D.Foreign i → read_test o cs n m ≡ Err (ForeignLetter i)
     read_foreign i e d = received_then o (length cs) _ received ∙ rw (e, d)
 
-    pub read_fine : (b : Bool) → short_buffers o n m ≡ false → decoded cs ≡ D.Whole b → read_test o cs n m ≡ Fine
+    pub read_fine : (b : Bool) → short_buffers o n m ≡ false → decoded cs ≡ D.Whole b → read_test o cs n m ≡ Ok tt
     read_fine b e d = received_then o (length cs) _ received ∙ rw (e, d)
 
   module _ (i : ℕ) where
-    pub piece_foreign : (j : ℕ) → decoded cs ≡ D.Foreign j → piece_test o cs i ≡ Refused (ForeignLetter j)
+    pub piece_foreign : (j : ℕ) → decoded cs ≡ D.Foreign j → piece_test o cs i ≡ Err (ForeignLetter j)
     piece_foreign j d = received_then o (length cs) _ received ∙ rw d
 
-    pub piece_outside : (b : Bool) → decoded cs ≡ D.Whole b → outside 1 (length o.lengths) i ≡ true → piece_test o cs i ≡ Refused NoSuchSegment
+    pub piece_outside : (b : Bool) → decoded cs ≡ D.Whole b → outside 1 (length o.lengths) i ≡ true → piece_test o cs i ≡ Err NoSuchSegment
     piece_outside b d e = received_then o (length cs) _ received ∙ rw (d, e)
 
-    pub piece_fine : (b : Bool) → decoded cs ≡ D.Whole b → outside 1 (length o.lengths) i ≡ false → piece_test o cs i ≡ Fine
+    pub piece_fine : (b : Bool) → decoded cs ≡ D.Whole b → outside 1 (length o.lengths) i ≡ false → piece_test o cs i ≡ Ok tt
     piece_fine b d e = received_then o (length cs) _ received ∙ rw (d, e)
 
-not_foreign : (d : Decoded) (next : Checked) → foreign_test d next ≡ Fine → (b : Bool) × (d ≡ D.Whole b)
+not_foreign : (d : Decoded) (next : Result (Unit {0}) Refusal) → foreign_test d next ≡ Ok tt → (b : Bool) × (d ≡ D.Whole b)
 not_foreign (D.Whole b) next e = (b, refl)
 not_foreign (D.Foreign j) next e = let z : ◌≡◌ {A = ℕ} 0 1 = cc in absurd (omega arith)
 
 -- what holds of a call that is taken: tests 1 to 4 are not met, and neither is what follows
-pub received_taken : (o : Order) (n : ℕ) (next : Checked) → received_test o n next ≡ Fine → (received_test o n Fine ≡ Fine) × (next ≡ Fine)
-received_taken o n next e = go (received_test o n Fine) refl
+pub received_taken : (o : Order) (n : ℕ) (next : Result (Unit {0}) Refusal) → received_test o n next ≡ Ok tt → (received_test o n (Ok tt) ≡ Ok tt) × (next ≡ Ok tt)
+received_taken o n next e = go (received_test o n (Ok tt)) refl
   where
-    go : (c : Checked) → received_test o n Fine ≡ c → (received_test o n Fine ≡ Fine) × (next ≡ Fine)
-    go Fine p = (p, sym (received_then o n next p) ∙ e)
-    go (Refused u) p = let q : Fine ≡ Refused u = sym e ∙ received_refused o n u next p in let z : ◌≡◌ {A = ℕ} 0 1 = cc in absurd (omega arith)
+    go : (c : Result (Unit {0}) Refusal) → received_test o n (Ok tt) ≡ c → (received_test o n (Ok tt) ≡ Ok tt) × (next ≡ Ok tt)
+    go (Ok _) p = (p, sym (received_then o n next p) ∙ e)
+    go (Err u) p = let q : (Ok tt) ≡ Err u = sym e ∙ received_refused o n u next p in let z : ◌≡◌ {A = ℕ} 0 1 = cc in absurd (omega arith)
 
 -- a piece call that is taken has an order that is taken and letters alone
-pub piece_Taken : (o : Order) (cs : List ℕ) (i : ℕ) → piece_test o cs i ≡ Fine → (Taken o) × ((b : Bool) × (decoded cs ≡ D.Whole b))
+pub piece_Taken : (o : Order) (cs : List ℕ) (i : ℕ) → piece_test o cs i ≡ Ok tt → (Taken o) × ((b : Bool) × (decoded cs ≡ D.Whole b))
 piece_Taken o cs i e =
     let p = received_taken o (length cs) _ e in
     ((received_fine o (length cs) p.0).0, not_foreign (decoded cs) _ p.1)

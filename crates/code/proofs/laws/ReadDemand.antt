@@ -3,12 +3,11 @@
 --   Kept, kept         what holds of the reading of such a strand
 --   demand_3_call      the reading call keeps demand 3
 --   one_message_Sent   no two messages of one order share such a strand
-use Rattle.std.specs.Prelude.{◌≡◌, false, List, ℕ, ◌+◌, ◌≤◌, length}
+use Rattle.std.specs.Prelude.{Ok, ◌≡◌, false, List, ℕ, ◌+◌, ◌≤◌, length}
 use Rattle.std.proofs.Common.{sym, ap, ◌∙◌, arith}
 use Rattle.std.proofs.lemmas.List.{length-map}
 use Rattle.code.specs.declared.Decoded.TheVariants as D
 use Rattle.code.specs.declared.Refusal.TheVariants.{ShortBuffer}
-use Rattle.code.specs.declared.Checked.TheVariants.{Fine}
 use Rattle.code.specs.Symbols.{letter_of, legible, decoded, has_unknown, symbols, bytes}
 use Rattle.code.proofs.laws.Symbols.{legible-letters, length-symbols, symbols-Below, bytes-symbols}
 use Rattle.code.specs.Layout.{sum}
@@ -26,7 +25,7 @@ use Rattle.code.proofs.laws.ReadCall.{fine_received, received_then}
 use Rattle.code.specs.ReadDemand.{Sent, Demand3Call}
 
 -- of letters that keep the conditions only test 5 can be met
-pub only_short : (o : Order) (cs bs s : List ℕ) (n m : ℕ) → Sent o cs bs s → read_test o cs n m ≡ refuse (short_buffers o n m) ShortBuffer Fine
+pub only_short : (o : Order) (cs bs s : List ℕ) (n m : ℕ) → Sent o cs bs s → read_test o cs n m ≡ refuse (short_buffers o n m) ShortBuffer (Ok tt)
 only_short o cs bs s n m sent =
     let r = readable o false bs s (order_fine o false sent.order) sent.size sent.one_edit in
     let short : length cs ≤ most_letters = omega (arith, r.short, length-map s letter_of, ap length sent.received) in
@@ -38,7 +37,7 @@ pub record Kept (o : Order) (cs bs : List ℕ) : Type 0 where
   pub message : bytes (messages_of (outcomes_of o cs)) ≡ bs
   pub none_lost : count_of 2 (marks_for o cs) ≡ 0
   pub all_found : count_of 0 (marks_for o cs) + count_of 1 (marks_for o cs) ≡ length o.lengths
-  pub tested : (n m : ℕ) → read_test o cs n m ≡ refuse (short_buffers o n m) ShortBuffer Fine
+  pub tested : (n m : ℕ) → read_test o cs n m ≡ refuse (short_buffers o n m) ShortBuffer (Ok tt)
 
 pub kept : (o : Order) (cs bs s : List ℕ) → Sent o cs bs s → Kept o cs bs
 kept o cs bs s sent =

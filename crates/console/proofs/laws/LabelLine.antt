@@ -2,39 +2,32 @@
 --   line_inside     the lengths of a line's order stand in their array
 --   lines_taken     what is printed of an order that is taken
 --   lines_refused   what is printed of a refusal
-use Rattle.std.specs.Prelude.{◌≡◌, refl, Bool, true, false, List, ℕ, ◌≤◌, length, take}
-use Rattle.std.proofs.Common.{sym, ap, ◌∙◌, arith}
-use Rattle.code.specs.declared.Refusal.{Refusal}
-use Rattle.code.specs.declared.Checked.TheVariants.{Fine, Refused}
-use Rattle.code.specs.declared.Labelled.{Labelled}
-use Rattle.code.specs.Order.{Order}
-use Rattle.code.specs.Label.{order_in}
-use Rattle.code.proofs.laws.Label.{label_inside}
-use Rattle.text.specs.Lines.{line, behind}
 use Rattle.text.specs.Hex.{hex_bytes}
-use Rattle.text.specs.Put.{Appended}
+use Rattle.code.proofs.laws.Label.{label_inside}
+use Rattle.std.specs.Prelude.{Result, Ok, Err, ◌≡◌, List, ℕ, take, refl, Bool, true, false, ◌≤◌, length, IfOk}
+use Rattle.std.proofs.Common.{sym, ap, ◌∙◌}
+use Rattle.code.specs.declared.Refusal.{Refusal}
+use Rattle.code.specs.declared.Labelled.{Labelled}
+use Rattle.code.specs.Order.{Order, order}
+use Rattle.text.specs.Lines.{line, behind}
 use Rattle.console.specs.RefusedLine.{refused_line}
-use Rattle.console.specs.LabelLine.{holds_label, order_line, printed}
+use Rattle.console.specs.LabelLine.{order_line, printed, holds_label}
 
 -- the lengths of a line's order stand in their array
-pub line_inside : (text : List ℕ) → (order_line text).count ≤ length (order_line text).lengths
+pub line_inside : (text : List ℕ) → IfOk (order_line text) (λ l. l.count ≤ length l.lengths)
 line_inside text = go (holds_label text) refl
   where
-    go : (b : Bool) → holds_label text ≡ b → (order_line text).count ≤ length (order_line text).lengths
+    go : (b : Bool) → holds_label text ≡ b → IfOk (order_line text) (λ l. l.count ≤ length l.lengths)
     go true e = rw e (label_inside (hex_bytes text))
-    go false e = rw e (omega arith)
+    go false e = rw e tt
 
--- the text of the first two lines of an input at the front of a buffer
-module _ (f : Order → List ℕ → List ℕ) (input first : List ℕ) (answer : Labelled) (p : first ≡ line input) (e : answer ≡ order_line first) where
-  told : answer ≡ order_line (line input)
-  told = e ∙ ap order_line p
+-- the text of the first two lines of an input
+module _ (f : Order → List ℕ → List ℕ) (input first : List ℕ) (answer : Result Labelled Refusal) (p : first ≡ line input) (e : answer ≡ order_line first) where
+  told : order_line (line input) ≡ answer
+  told = sym (e ∙ ap order_line p)
 
-  pub lines_taken : {d out : List ℕ} {n : ℕ} (second : List ℕ) → second ≡ line (behind input) → answer.tested ≡ Fine → Appended d 0 (f (order_in answer) second) out n → take n out ≡ printed f input
-  lines_taken second q t put =
-      let u : (order_line (line input)).tested ≡ Fine = ap (λ (l : Labelled). l.tested) (sym told) ∙ t in
-      put.text ∙ rw u (λ i. f (order_in (told i)) (q i))
+  pub lines_taken : (l : Labelled) (lengths second : List ℕ) → lengths ≡ take l.count l.lengths → second ≡ line (behind input) → answer ≡ Ok l → f (order lengths l.b) second ≡ printed f input
+  lines_taken l lengths second k q t = rw (told ∙ t) (λ i. f (order (k i) l.b) (q i))
 
-  pub lines_refused : {d out : List ℕ} {n : ℕ} (r : Refusal) → answer.tested ≡ Refused r → Appended d 0 (refused_line r) out n → take n out ≡ printed f input
-  lines_refused r t put =
-      let u : (order_line (line input)).tested ≡ Refused r = ap (λ (l : Labelled). l.tested) (sym told) ∙ t in
-      put.text ∙ rw u
+  pub lines_refused : (r : Refusal) → answer ≡ Err r → refused_line r ≡ printed f input
+  lines_refused r t = rw (told ∙ t)

@@ -13,9 +13,6 @@ loop-i-preserved c =
     let e = sym c.eight_at.ensures ∙ c.if-eight_at.false ∙ c.eight_at-in-loop-i.ensures in
     (l.invariant.0, omega arith, omega (arith, l.invariant.2, common_words a.w.now a.v.now l.i s t (omega arith) (omega arith) e))
 
-pub loop-i-2-init : goal.loop-i-2-init
-loop-i-2-init c = c.loop-i.invariant
-
 pub returns-then-w-i : goal.returns-then-w-i
 returns-then-w-i c =
     let a = c.args in

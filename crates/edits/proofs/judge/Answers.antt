@@ -5,9 +5,6 @@ use Rattle.edits.proofs.SharedFront.{shared, common_sym}
 use Rattle.edits.proofs.Judgement.{far_many}
 use Rattle.edits.proofs.judge.Goals as goal
 
-pub judge_changed-requires : goal.judge_changed-requires
-judge_changed-requires c = (omega arith, omega arith, c.first_difference-i.ensures)
-
 pub returns-then-piece-written : goal.returns-then-piece-written
 returns-then-piece-written c = c.judge_changed.ensures
 

@@ -1,15 +1,10 @@
 use mathlib.Core.Path.{sym, ap, ◌∙◌}
-use native.Mathlib.Omega.{arith}
-use lib.ListN.{length-take, length-drop}
 use Rattle.edits.specs.Judgement.{judged_as}
 use Rattle.edits.proofs.Judgement.{changed_none, changed_sub, changed_many}
 use Rattle.edits.proofs.judge_changed.Goals as goal
 
 pub returns-then-written-i : goal.returns-then-written-i
 returns-then-written-i c = let a = c.args in sym (ap judged_as (changed_none a.written.now a.piece.now a.i c.requires.1 c.requires.2 c.if-written-i.true))
-
-pub stands_at-requires : goal.stands_at-requires
-stands_at-requires c = (omega arith, simp (length-take, length-drop) (omega arith))
 
 pub returns-then-stands_at : goal.returns-then-stands_at
 returns-then-stands_at c =

@@ -5,14 +5,8 @@ use lib.ListN.{drop, take, replicate}
 use Rattle.code.specs.Label.{in_bits}
 use Rattle.code.proofs.laws.Lists.{take-replicate}
 use Rattle.code.proofs.laws.Bits.{number_least}
-use Rattle.label.proofs.Calls.{read_spare1, read_order1}
+use Rattle.label.proofs.Calls.{read_order1}
 use Rattle.label.proofs.read1.Goals as goal
-
-pub returns-then-number_at-ne0 : goal.returns-then-number_at-ne0
-returns-then-number_at-ne0 c =
-    let label = c.args.bytes.now in
-    let h = c.requires in
-    c.refused.ensures ∙ sym (read_spare1 label h.0 h.1 (λ e. c.if-number_at-ne0.true (c.number_at.ensures ∙ e)))
 
 pub times-n-requires : goal.times-n-requires
 times-n-requires c = omega (arith, c.number_at-b.ensures, number_least 8 (drop 11 (in_bits 8 c.args.bytes.now)))
@@ -27,8 +21,7 @@ returns c =
     let k = c.number_at-k in
     let b = c.number_at-b in
     let n = c.times-n in
-    let count : n.result - 0 ≡ min 65 (1 + (4 * b.result / k.result - 1)) = omega (arith, n.ensures) in
-    let part : take (n.result - 0) (replicate 65 k.result) ≡ replicate (min 65 (1 + (4 * b.result / k.result - 1))) k.result =
-    take-replicate (n.result - 0) 65 k.result (omega arith) ∙ ap (λ (m : ℕ). replicate m k.result) count in
+    let part : take n.result (replicate 65 k.result) ≡ replicate (min 65 (1 + (4 * b.result / k.result - 1))) k.result =
+    take-replicate n.result 65 k.result (omega arith) ∙ ap (λ (m : ℕ). replicate m k.result) n.ensures in
     c.answer.ensures
     ∙ read_order1 label h.0 h.1 (sym c.number_at.ensures ∙ c.if-number_at-ne0.false) k.result b.result k.ensures b.ensures _ part

@@ -22,4 +22,4 @@ pub returns : goal.returns
 returns c =
     let a = c.args in
     let e = four_bytes a.symbols.now a.i c.requires (bytes_Below a.symbols.now c.shared_slice_known-1.given) in
-    c.layer_bits.ensures ∙ rw (c.four_at.ensures, e)
+    c.layer_bits.ensures ∙ rw (c.from.ensures, c.four_at.ensures, e)

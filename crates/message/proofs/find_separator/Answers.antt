@@ -1,44 +1,37 @@
-use mathlib.Core.Bool.{true, false}
-use Prim.Native.Nat.{◌+◌}
+use mathlib.Core.Path.{sym, ap}
+use Prim.Native.Nat.{◌+◌, ◌-◌}
 use native.Mathlib.Omega.{arith}
-use borrow.Author.Count.{below_none, below_more}
 use lib.ListN.{drop}
-use Rattle.places.specs.Offsets.{tried_at}
-use Rattle.places.proofs.laws.Offsets.{tried_small}
-use Rattle.message.proofs.Separators.{found_at, found_none, moved_test}
+use Rattle.code.proofs.laws.Reading.{at_level, at_early, at_late, at_none}
+use Rattle.message.specs.MessageAnswers.{separator_as}
+use Rattle.message.proofs.Separators.{test_at}
 use Rattle.message.proofs.find_separator.Goals as goal
-
-pub loop-j-init : goal.loop-j-init
-loop-j-init c = (omega arith, below_none _)
-
-pub overflow_add-d : goal.overflow_add-d
-overflow_add-d c =
-    let l = c.loop-j in
-    let a = c.args in
-    omega (arith, c.moved_by.ensures, tried_small (a.k + 1) l.j)
-
-pub three_equal-requires : goal.three_equal-requires
-three_equal-requires c =
-    let l = c.loop-j in
-    let a = c.args in
-    omega (arith, c.moved_by.ensures, tried_small (a.k + 1) l.j)
 
 pub returns-then-three_equal : goal.returns-then-three_equal
 returns-then-three_equal c =
-    let l = c.loop-j in
     let a = c.args in
-    found_at a.k (drop a.d a.s.now) l.j (omega arith) l.invariant.1 (moved_test a.s.now a.d (tried_at (a.k + 1) l.j) c.moved_by.result c.three_equal.result true c.moved_by.ensures c.three_equal.ensures c.if-three_equal.true)
+    let t = test_at a.s.now a.d (a.k + 1) _ _ _ (omega arith) c.three_equal.ensures c.if-three_equal.true in
+    sym (ap separator_as (at_level a.k (drop a.d a.s.now) t))
 
-pub loop-j-preserved : goal.loop-j-preserved
-loop-j-preserved c =
-    let l = c.loop-j in
-    let a = c.args in (
-      omega arith,
-      below_more _ _ l.invariant.1 (moved_test a.s.now a.d (tried_at (a.k + 1) l.j) c.moved_by.result c.three_equal.result false c.moved_by.ensures c.three_equal.ensures c.if-three_equal.false),
-    )
+pub returns-then-three_equal-2 : goal.returns-then-three_equal-2
+returns-then-three_equal-2 c =
+    let a = c.args in
+    let t = test_at a.s.now a.d (a.k + 1) _ _ _ (omega arith) c.three_equal.ensures c.if-three_equal.false in
+    let u = test_at a.s.now a.d (a.k + 1 - 1) _ _ _ (omega arith) c.three_equal-2.ensures c.if-three_equal-2.true in
+    sym (ap separator_as (at_early a.k (drop a.d a.s.now) t u))
+
+pub returns-then-three_equal-3 : goal.returns-then-three_equal-3
+returns-then-three_equal-3 c =
+    let a = c.args in
+    let t = test_at a.s.now a.d (a.k + 1) _ _ _ (omega arith) c.three_equal.ensures c.if-three_equal.false in
+    let u = test_at a.s.now a.d (a.k + 1 - 1) _ _ _ (omega arith) c.three_equal-2.ensures c.if-three_equal-2.false in
+    let v = test_at a.s.now a.d (a.k + 1 + 1) _ _ _ (omega arith) c.three_equal-3.ensures c.if-three_equal-3.true in
+    sym (ap separator_as (at_late a.k (drop a.d a.s.now) t u v))
 
 pub returns : goal.returns
 returns c =
-    let l = c.loop-j in
     let a = c.args in
-    found_none a.k (drop a.d a.s.now) l.j (omega arith) l.invariant.1
+    let t = test_at a.s.now a.d (a.k + 1) _ _ _ (omega arith) c.three_equal.ensures c.if-three_equal.false in
+    let u = test_at a.s.now a.d (a.k + 1 - 1) _ _ _ (omega arith) c.three_equal-2.ensures c.if-three_equal-2.false in
+    let v = test_at a.s.now a.d (a.k + 1 + 1) _ _ _ (omega arith) c.three_equal-3.ensures c.if-three_equal-3.false in
+    sym (ap separator_as (at_none a.k (drop a.d a.s.now) t u v))

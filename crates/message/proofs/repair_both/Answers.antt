@@ -11,9 +11,6 @@ use Rattle.message.proofs.repair_both.Goals as goal
 pub numbers-numbers-requires : goal.numbers-numbers-requires
 numbers-numbers-requires c = omega (arith, c.requires.written.1, width_most (length c.args.out.now) (omega arith))
 
-pub repair_layer-requires : goal.repair_layer-requires
-repair_layer-requires c = (omega arith, (omega arith, omega arith), highs c.requires.sums)
-
 pub returns-in_default : goal.returns-in_default
 returns-in_default c =
     let a = c.args in
@@ -22,9 +19,6 @@ returns-in_default c =
     let n = c.numbers-numbers in
     let m = c.repair_layer in
     lost_high a.link x w _ (gets_none a.link (layer 1 x) (number (layer 1 w)) n.result.high m.result m.ensures (highs n.ensures) c.in_default.is)
-
-pub repair_layer-requires-2 : goal.repair_layer-requires-2
-repair_layer-requires-2 c = (omega arith, (omega arith, omega arith), lows c.requires.sums)
 
 pub returns-in_default-repair_layer : goal.returns-in_default-repair_layer
 returns-in_default-repair_layer c =
@@ -41,7 +35,7 @@ mended_pair-requires c =
     let n = c.numbers-numbers in
     let m = c.repair_layer in
     let o = c.repair_layer-2 in
-    let g = words a.link a.received.now a.written.now n.result m.result o.result _ _ _ _ n.ensures m.ensures o.ensures c.in-At.is c.in-At-repair_layer.is in
+    let g = words a.link a.received.now a.written.now n.result m.result o.result _ _ n.ensures m.ensures o.ensures c.in-Some.is c.in-Some-repair_layer.is in
     record { room = c.requires.room.0; high_fits = word_length a.link 1 a.received.now _ _ g.high ∙ sym c.requires.room.0; low_fits = word_length a.link 0 a.received.now _ _ g.low ∙ sym c.requires.room.0 }
 
 pub tail_given-requires : goal.tail_given-requires
@@ -50,7 +44,7 @@ tail_given-requires c =
     let n = c.numbers-numbers in
     let m = c.repair_layer in
     let o = c.repair_layer-2 in
-    let g = words a.link a.received.now a.written.now n.result m.result o.result _ _ _ _ n.ensures m.ensures o.ensures c.in-At.is c.in-At-repair_layer.is in
+    let g = words a.link a.received.now a.written.now n.result m.result o.result _ _ n.ensures m.ensures o.ensures c.in-Some.is c.in-Some-repair_layer.is in
     let p = c.mended_pair in
     let q = mended_given a.link a.received.now a.written.now _ _ p.new.out (length a.out.now) c.requires.written.0 c.requires.written.1 c.requires.room.0 c.requires.written.2 g p.ensures in
     search rules
@@ -61,5 +55,5 @@ returns c =
     let n = c.numbers-numbers in
     let m = c.repair_layer in
     let o = c.repair_layer-2 in
-    let g = words a.link a.received.now a.written.now n.result m.result o.result _ _ _ _ n.ensures m.ensures o.ensures c.in-At.is c.in-At-repair_layer.is in
+    let g = words a.link a.received.now a.written.now n.result m.result o.result _ _ n.ensures m.ensures o.ensures c.in-Some.is c.in-Some-repair_layer.is in
     read_both a.link a.received.now a.written.now _ _ _ _ g c.mended_pair.ensures c.tail_given.ensures

@@ -3,4 +3,4 @@ use Rattle.packing.proofs.Words.{spread_rounds}
 use Rattle.packing.proofs.spread.Goals as goal
 
 pub returns : goal.returns
-returns c = spread_rounds c.args.x (omega arith)
+returns c = rw c.from-byte.ensures (spread_rounds c.args.x (omega arith))

@@ -1,6 +1,4 @@
-use mathlib.Core.Path.{sym, ◌∙◌}
-use mathlib.Core.List.{[]}
-use native.Mathlib.Omega.{arith}
+use Rattle.std.proofs.Common.{sym, ◌∙◌, arith, []}
 use Rattle.code.specs.Order.{order}
 use Rattle.pieces.proofs.Calls.{refused_located, placed}
 use Rattle.pieces.proofs.piece.Goals as goal
@@ -8,29 +6,23 @@ use Rattle.pieces.proofs.piece.Goals as goal
 pub slice_bounds-result-count : goal.slice_bounds-result-count
 slice_bounds-result-count c =
     let a = c.args in
-    let p = placed (order a.lengths.now a.b) a.letters.now a.segment _ _ (sym c.locate-located.ensures ∙ c.in-At.is) in
-    omega arith
-
-pub slice_bounds-result-start : goal.slice_bounds-result-start
-slice_bounds-result-start c =
-    let a = c.args in
-    let p = placed (order a.lengths.now a.b) a.letters.now a.segment _ _ (sym c.locate-located.ensures ∙ c.in-At.is) in
+    let p = placed (order a.lengths.now a.b) a.letters.now a.segment c.in-Ok.span (sym c.locate.ensures ∙ c.in-Ok.is) in
     omega arith
 
 pub slice_bounds-result-end : goal.slice_bounds-result-end
 slice_bounds-result-end c =
     let a = c.args in
-    let p = placed (order a.lengths.now a.b) a.letters.now a.segment _ _ (sym c.locate-located.ensures ∙ c.in-At.is) in
+    let p = placed (order a.lengths.now a.b) a.letters.now a.segment c.in-Ok.span (sym c.locate.ensures ∙ c.in-Ok.is) in
     omega arith
 
-pub returns-in-At : goal.returns-in-At
-returns-in-At c =
+pub returns-in-Err : goal.returns-in-Err
+returns-in-Err c =
     let a = c.args in
-    let p = placed (order a.lengths.now a.b) a.letters.now a.segment _ _ (sym c.locate-located.ensures ∙ c.in-At.is) in
-    rw p.tested (λ i. (p.letters i, (0, 0)))
+    let t = refused_located (order a.lengths.now a.b) a.letters.now a.segment _ (sym c.locate.ensures ∙ c.in-Err.is) in
+    rw t (λ i. ([], (c.from.ensures i, c.place.ensures i)))
 
-pub returns-in-Refused : goal.returns-in-Refused
-returns-in-Refused c =
+pub returns-in-Ok : goal.returns-in-Ok
+returns-in-Ok c =
     let a = c.args in
-    let t = refused_located (order a.lengths.now a.b) a.letters.now a.segment _ (sym c.locate-located.ensures ∙ c.in-Refused.is) in
-    rw t (λ i. ([], (c.number_of.ensures i, c.place_of.ensures i)))
+    let p = placed (order a.lengths.now a.b) a.letters.now a.segment c.in-Ok.span (sym c.locate.ensures ∙ c.in-Ok.is) in
+    rw p.tested (λ i. (p.letters i, (0, 0)))

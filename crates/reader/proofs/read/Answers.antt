@@ -1,18 +1,15 @@
-use native.Mathlib.Omega.{arith}
-use Rattle.code.specs.Order.{order}
+use Rattle.std.proofs.Common.{ap, ◌∙◌}
+use Rattle.code.specs.Order.{Order, order}
+use Rattle.code.specs.ReadCall.{read_call}
 use Rattle.reader.proofs.Calls.{promised}
 use Rattle.reader.proofs.read.Goals as goal
 
--- the smaller arrays have room for a short strand
-pub read_lent-requires : goal.read_lent-requires
-read_lent-requires c = (λ h. omega (arith, c.if-letters-le-SHORT_LETTERS.true), λ h. omega (arith, c.if-b-le-SHORT_BYTES.true))
-
-pub returns-then-b-le-SHORT_BYTES : goal.returns-then-b-le-SHORT_BYTES
-returns-then-b-le-SHORT_BYTES c =
+pub returns-then-b-le-SHORT_BYTES-clause-one_edit : goal.returns-then-b-le-SHORT_BYTES-clause-one_edit
+returns-then-b-le-SHORT_BYTES-clause-one_edit c =
     let a = c.args in
-    let both = promised (order a.lengths.now a.b) a.letters.now a.message.now a.sheet.now _ c.read_lent.ensures in record { exact = both.0; one_edit = both.1 }
+    (promised (order a.lengths.now a.b) a.letters.now a.message.now a.sheet.now _ (c.read_within.ensures ∙ ap (λ (o : Order). read_call o a.letters.now a.message.now a.sheet.now) c.in_ok-order.ensures.ok)).1
 
-pub returns : goal.returns
-returns c =
+pub returns-else-letters-le-SHORT_LETTERS-clause-one_edit : goal.returns-else-letters-le-SHORT_LETTERS-clause-one_edit
+returns-else-letters-le-SHORT_LETTERS-clause-one_edit c =
     let a = c.args in
-    let both = promised (order a.lengths.now a.b) a.letters.now a.message.now a.sheet.now _ c.read_lent-2.ensures in record { exact = both.0; one_edit = both.1 }
+    (promised (order a.lengths.now a.b) a.letters.now a.message.now a.sheet.now _ (c.read_within-else-letters-le-SHORT_LETTERS.ensures ∙ ap (λ (o : Order). read_call o a.letters.now a.message.now a.sheet.now) c.in_ok-order.ensures.ok)).1

@@ -1,16 +1,8 @@
-use mathlib.Core.Path.{sym, ap, ◌∙◌}
-use lib.ListN.{length}
-use Rattle.code.proofs.laws.Letters.{length_as}
+use native.Mathlib.Omega.{arith}
 use Rattle.reading.proofs.Fronts.{front_symbols, front_Received}
 use Rattle.reading.proofs.read_beside.Goals as goal
 
-pub slice_bounds-read_segments-end-2 : goal.slice_bounds-read_segments-end-2
-slice_bounds-read_segments-end-2 c =
+pub invariant_of-strand : goal.invariant_of-strand
+invariant_of-strand g c =
     let l = c.args.letters.now in
-    sym (ap length (front_symbols l _ _ c.as_symbols.ensures) ∙ length_as l)
-
-pub read_segments-requires : goal.read_segments-requires
-read_segments-requires c =
-    let l = c.args.letters.now in
-    let put = c.as_symbols.ensures in
-    record { received = (front_Received l _ _ put c.requires.received.0, c.requires.received.1, front_symbols l _ _ put, c.requires.received.2); lent = c.requires.lent.1 }
+    record { received = front_Received l _ _ c.as_symbols.ensures (omega (arith, c.requires.room)); read = front_symbols l _ _ c.as_symbols.ensures }

@@ -7,9 +7,6 @@ use Rattle.code.specs.Order.{order}
 use Rattle.code.proofs.laws.Order.{order_fine}
 use Rattle.reading.proofs.read_order.Goals as goal
 
-pub slice_bounds-read_layout-end-2 : goal.slice_bounds-read_layout-end-2
-slice_bounds-read_layout-end-2 c = sym (length-take-le _ _ c.requires.received.2)
-
 pub read_layout-requires : goal.read_layout-requires
 read_layout-requires c =
     let o = order_fine (order c.args.lengths.now c.args.b) false c.requires.taken.0 in

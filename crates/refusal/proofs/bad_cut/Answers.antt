@@ -20,4 +20,4 @@ returns-then-outside c =
     rw p c.if-outside.true
 
 pub returns-else-outside : goal.returns-else-outside
-returns-else-outside c = rw (inside (goal.at.returns-else-outside c).Else-outside, c.sum_of.ensures)
+returns-else-outside c = rw (inside (goal.at.returns-else-outside c).Else-outside, c.from.ensures, c.sum_of.ensures)

@@ -1,19 +1,13 @@
-use mathlib.Core.Path.{refl, sym, ◌∙◌}
-use native.Mathlib.Omega.{arith}
+use Rattle.std.proofs.Common.{◌∙◌, sym}
 use Rattle.refusal.proofs.Lengths.{bad_turn, bad_end_lem}
 use Rattle.refusal.proofs.bad_length.Goals as goal
 
-pub loop-i-init : goal.loop-i-init
-loop-i-init c = (omega arith, refl)
-
-pub loop-i-preserved : goal.loop-i-preserved
-loop-i-preserved c =
-    let l = c.loop-i in
-    let a = c.args in
-    (omega arith, rw (c.either-bad.ensures, c.is_outside.ensures) (bad_turn a.lengths.now l.i a.most l.bad c.loop-i-test.true ∙ l.invariant.1))
+pub loop-k-preserved : goal.loop-k-preserved
+loop-k-preserved c =
+    let l = c.loop-k in
+    bad_turn c.args.lengths.now l.k-index c.args.most l.bad c.loop-k-test.true ∙ l.invariant
 
 pub returns : goal.returns
 returns c =
-    let l = c.loop-i in
-    let a = c.args in
-    sym (sym l.invariant.1 ∙ bad_end_lem a.lengths.now l.i a.most l.bad (omega arith))
+    let l = c.loop-k in
+    sym (sym l.invariant ∙ bad_end_lem c.args.lengths.now l.k-index c.args.most l.bad c.loop-k-test.false)

@@ -11,6 +11,7 @@ use Rattle.code.specs.declared.Link.TheVariants.{Changed}
 use Rattle.repair.proofs.Remainders.{ahead_below}
 use Rattle.repair.proofs.TriedPlaces.{reads_zero, reads_one}
 use Rattle.repair.proofs.Repairs.{changed_same, changed_raised, changed_lowered, changed_none}
+use Rattle.layers.specs.LayerSums.{shift_of}
 use Rattle.repair.proofs.repair_changed.Goals as goal
 
 at_most_one : (n : ℕ) → n < 2 → (n ≡ 1 → ⊥) → n ≡ 0
@@ -22,87 +23,79 @@ pub returns-then-k-written : goal.returns-then-k-written
 unfolding mended
 returns-then-k-written c =
     let a = c.args in
-    let n = length-layer a.shift a.symbols.now in
-    sym (repair_overlarge Changed a.written (layer a.shift a.symbols.now) (omega arith) (omega arith))
+    let n = length-layer (shift_of a.summed.now.layer) a.summed.now.symbols.now in
+    sym (repair_overlarge Changed a.written (layer (shift_of a.summed.now.layer) a.summed.now.symbols.now) (omega arith) (omega arith))
 
 pub returns-then-d-eq0 : goal.returns-then-d-eq0
 unfolding mended
 returns-then-d-eq0 c =
     let a = c.args in
-    let m = a.symbols.now in
-    changed_same (layer a.shift m) (length m) a.sum a.written c.ahead_of-d.result (length-layer a.shift m) c.requires.3 c.if-k-written.false c.ahead_of-d.ensures (length m) _ (omega arith) c.if-d-eq0.true
+    let m = a.summed.now.symbols.now in
+    changed_same (layer (shift_of a.summed.now.layer) m) (length m) a.summed.now.sum a.written c.ahead_of-d.result (length-layer (shift_of a.summed.now.layer) m) c.args.summed.now.summed c.if-k-written.false c.ahead_of-d.ensures (length m) _ (omega arith) c.if-d-eq0.true
 
-pub returns-then-digit_of-eq0 : goal.returns-then-digit_of-eq0
+pub returns-then-digit-eq0 : goal.returns-then-digit-eq0
 unfolding mended
-returns-then-digit_of-eq0 c =
+returns-then-digit-eq0 c =
     let a = c.args in
-    let m = a.symbols.now in
+    let m = a.summed.now.symbols.now in
     let d = c.ahead_of-d.result in
-    let b = ahead_below a.sum a.written (2 * length m) (omega arith) in
+    let b = ahead_below a.summed.now.sum a.written (2 * length m) (omega arith) in
     let f = c.ahead_of-d.ensures in
     let i = d - 1 in
-    let z = reads_zero a.shift m i c.digit_of.result (omega arith) c.digit_of.ensures.0 c.if-digit_of-eq0.true in
-    changed_raised (layer a.shift m) (length m) a.sum a.written d (length-layer a.shift m) c.requires.3 c.if-k-written.false f i (omega arith) z (omega arith)
+    let z = reads_zero (shift_of a.summed.now.layer) m i c.digit.result (omega arith) c.digit.ensures.0 c.if-digit-eq0.true in
+    changed_raised (layer (shift_of a.summed.now.layer) m) (length m) a.summed.now.sum a.written d (length-layer (shift_of a.summed.now.layer) m) c.args.summed.now.summed c.if-k-written.false f i (omega arith) z (omega arith)
 
 pub returns-then-d-k : goal.returns-then-d-k
 unfolding mended
 returns-then-d-k c =
     let a = c.args in
-    let m = a.symbols.now in
+    let m = a.summed.now.symbols.now in
     let d = c.ahead_of-d.result in
-    let b = ahead_below a.sum a.written (2 * length m) (omega arith) in
+    let b = ahead_below a.summed.now.sum a.written (2 * length m) (omega arith) in
     let f = c.ahead_of-d.ensures in
     let i = d - 1 in
-    let z = reads_one a.shift m i c.digit_of.result (omega arith) c.digit_of.ensures.0 c.if-digit_of-eq0.false in
-    changed_none (layer a.shift m) (length m) a.sum a.written d (length-layer a.shift m) c.requires.3 c.if-k-written.false f
+    let z = reads_one (shift_of a.summed.now.layer) m i c.digit.result (omega arith) c.digit.ensures.0 c.if-digit-eq0.false in
+    changed_none (layer (shift_of a.summed.now.layer) m) (length m) a.summed.now.sum a.written d (length-layer (shift_of a.summed.now.layer) m) c.args.summed.now.summed c.if-k-written.false f
     c.if-d-eq0.false
     (λ j h q e. let g : j ≡ i = omega arith in true≢false (sym z ∙ rw (← g) q))
     (λ j h q e. omega arith)
 
-pub overflow_sub-i-2 : goal.overflow_sub-i-2
+pub returns-then-digit-eq1 : goal.returns-then-digit-eq1
 unfolding mended
-overflow_sub-i-2 c = omega (arith, c.ahead_of-d.ensures, ahead_below c.args.sum c.args.written (2 * length c.args.symbols.now) (omega arith))
-
-pub overflow_sub-i-3 : goal.overflow_sub-i-3
-unfolding mended
-overflow_sub-i-3 c = omega (arith, c.ahead_of-d.ensures, ahead_below c.args.sum c.args.written (2 * length c.args.symbols.now) (omega arith))
-
-pub returns-then-digit_of-eq1 : goal.returns-then-digit_of-eq1
-unfolding mended
-returns-then-digit_of-eq1 c =
+returns-then-digit-eq1 c =
     let a = c.args in
-    let m = a.symbols.now in
+    let m = a.summed.now.symbols.now in
     let d = c.ahead_of-d.result in
-    let b = ahead_below a.sum a.written (2 * length m) (omega arith) in
+    let b = ahead_below a.summed.now.sum a.written (2 * length m) (omega arith) in
     let f = c.ahead_of-d.ensures in
     let i = 2 * length m - d - 1 in
-    let g = c.if-digit_of-eq1.true in
-    let z = reads_one a.shift m i c.digit_of-2.result (omega arith) c.digit_of-2.ensures.0 (λ e. omega arith) in
-    changed_lowered (layer a.shift m) (length m) a.sum a.written d (length-layer a.shift m) c.requires.3 c.if-k-written.false f i (omega arith) z (omega arith)
+    let g = c.if-digit-eq1.true in
+    let z = reads_one (shift_of a.summed.now.layer) m i c.digit-2.result (omega arith) c.digit-2.ensures.0 (λ e. omega arith) in
+    changed_lowered (layer (shift_of a.summed.now.layer) m) (length m) a.summed.now.sum a.written d (length-layer (shift_of a.summed.now.layer) m) c.args.summed.now.summed c.if-k-written.false f i (omega arith) z (omega arith)
 
 pub returns-then-d-k-2 : goal.returns-then-d-k-2
 unfolding mended
 returns-then-d-k-2 c =
     let a = c.args in
-    let m = a.symbols.now in
+    let m = a.summed.now.symbols.now in
     let d = c.ahead_of-d.result in
-    let b = ahead_below a.sum a.written (2 * length m) (omega arith) in
+    let b = ahead_below a.summed.now.sum a.written (2 * length m) (omega arith) in
     let f = c.ahead_of-d.ensures in
     let i = 2 * length m - d - 1 in
-    let z = reads_zero a.shift m i c.digit_of-2.result (omega arith) c.digit_of-2.ensures.0 (at_most_one _ c.digit_of-2.ensures.1 c.if-digit_of-eq1.false) in
-    changed_raised (layer a.shift m) (length m) a.sum a.written d (length-layer a.shift m) c.requires.3 c.if-k-written.false f i (omega arith) z (omega arith)
+    let z = reads_zero (shift_of a.summed.now.layer) m i c.digit-2.result (omega arith) c.digit-2.ensures.0 (at_most_one _ c.digit-2.ensures.1 c.if-digit-eq1.false) in
+    changed_raised (layer (shift_of a.summed.now.layer) m) (length m) a.summed.now.sum a.written d (length-layer (shift_of a.summed.now.layer) m) c.args.summed.now.summed c.if-k-written.false f i (omega arith) z (omega arith)
 
 pub returns : goal.returns
 unfolding mended
 returns c =
     let a = c.args in
-    let m = a.symbols.now in
+    let m = a.summed.now.symbols.now in
     let d = c.ahead_of-d.result in
-    let b = ahead_below a.sum a.written (2 * length m) (omega arith) in
+    let b = ahead_below a.summed.now.sum a.written (2 * length m) (omega arith) in
     let f = c.ahead_of-d.ensures in
     let i = 2 * length m - d - 1 in
-    let z = reads_zero a.shift m i c.digit_of-2.result (omega arith) c.digit_of-2.ensures.0 (at_most_one _ c.digit_of-2.ensures.1 c.if-digit_of-eq1.false) in
-    changed_none (layer a.shift m) (length m) a.sum a.written d (length-layer a.shift m) c.requires.3 c.if-k-written.false f
+    let z = reads_zero (shift_of a.summed.now.layer) m i c.digit-2.result (omega arith) c.digit-2.ensures.0 (at_most_one _ c.digit-2.ensures.1 c.if-digit-eq1.false) in
+    changed_none (layer (shift_of a.summed.now.layer) m) (length m) a.summed.now.sum a.written d (length-layer (shift_of a.summed.now.layer) m) c.args.summed.now.summed c.if-k-written.false f
     c.if-d-eq0.false
     (λ j h q e. c.if-d-k-2.false (omega arith))
     (λ j h q e. let g : j ≡ i = omega arith in true≢false (sym (rw (← g) q) ∙ z))

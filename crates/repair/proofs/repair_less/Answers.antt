@@ -1,6 +1,6 @@
-use mathlib.Core.Path.{sym}
+use mathlib.Core.Path.{◌≡◌, sym}
 use mathlib.Core.Bool.{true, false}
-use Prim.Native.Nat.{◌+◌, ◌-◌}
+use Prim.Native.Nat.{◌-◌, ◌+◌, suc}
 use native.Mathlib.Omega.{arith}
 use lib.ListN.{length}
 use Rattle.code.specs.Layers.{layer}
@@ -8,7 +8,8 @@ use Rattle.code.proofs.laws.Layers.{length-layer}
 use Rattle.code.specs.Repair.{mended}
 use Rattle.code.proofs.laws.Repair.{repair_overlarge}
 use Rattle.code.specs.declared.Link.TheVariants.{Less}
-use Rattle.repair.proofs.TriedPlaces.{less_begin, less_turn, less_from, ones_few}
+use Rattle.layers.specs.LayerSums.{shift_of}
+use Rattle.repair.proofs.TriedPlaces.{less_begin, less_counted, less_turn, ones_few}
 use Rattle.repair.proofs.Repairs.{less_found, less_none}
 use Rattle.repair.proofs.repair_less.Goals as goal
 
@@ -16,62 +17,52 @@ pub returns-then-m-written : goal.returns-then-m-written
 unfolding mended
 returns-then-m-written c =
     let a = c.args in
-    let n = length-layer a.shift a.symbols.now in
-    sym (repair_overlarge Less a.written (layer a.shift a.symbols.now) (omega arith) (omega arith))
+    let n = length-layer (shift_of a.summed.now.layer) a.summed.now.symbols.now in
+    sym (repair_overlarge Less a.written (layer (shift_of a.summed.now.layer) a.summed.now.symbols.now) (omega arith) (omega arith))
 
-pub loop-ones-init : goal.loop-ones-init
-unfolding mended
-loop-ones-init c = let a = c.args in (omega arith, less_begin a.shift a.symbols.now c.ahead_of-d.result)
+pub loop-i-init : goal.loop-i-init
+loop-i-init c = let a = c.args in less_begin (shift_of a.summed.now.layer) a.summed.now.symbols.now c.ahead_of-d.result
 
 pub returns-then-ones-d : goal.returns-then-ones-d
 unfolding mended
 returns-then-ones-d c =
     let a = c.args in
-    let m = a.symbols.now in
-    let l = c.loop-ones in
-    let n = length-layer a.shift m in
-    let k = l.invariant.1.counted in
-    less_found (layer a.shift m) (length m + 1) a.sum a.written c.ahead_of-d.result (omega arith) c.requires.2 c.if-m-written.false c.ahead_of-d.ensures l.i false (omega arith) (omega arith)
+    let m = a.summed.now.symbols.now in
+    let n = length-layer (shift_of a.summed.now.layer) m in
+    let k = c.loop-i.invariant.counted in
+    less_found (layer (shift_of a.summed.now.layer) m) (length m + 1) a.summed.now.sum a.written c.ahead_of-d.result (omega arith) c.args.summed.now.summed c.if-m-written.false c.ahead_of-d.ensures (c.loop-i.i - 1) false (omega arith) (omega arith)
 
 pub overflow_add-ones : goal.overflow_add-ones
-unfolding mended
-overflow_add-ones c = omega (arith, ones_few c.args.shift c.args.symbols.now c.loop-ones.i c.loop-ones.ones c.loop-ones.invariant.1.counted)
+overflow_add-ones c = omega (arith, ones_few (shift_of c.args.summed.now.layer) c.args.summed.now.symbols.now (c.loop-i.i - 1) c.loop-i.ones c.loop-i.invariant.counted)
 
-pub overflow_add-ones-in-loop-ones : goal.overflow_add-ones-in-loop-ones
-unfolding mended
-overflow_add-ones-in-loop-ones c = omega (arith, ones_few c.args.shift c.args.symbols.now c.loop-ones.i c.loop-ones.ones c.loop-ones.invariant.1.counted)
+pub overflow_add-ones-in-loop-i : goal.overflow_add-ones-in-loop-i
+overflow_add-ones-in-loop-i c = omega (arith, ones_few (shift_of c.args.summed.now.layer) c.args.summed.now.symbols.now (c.loop-i.i - 1) c.loop-i.ones c.loop-i.invariant.counted)
 
 pub returns-then-ones-i : goal.returns-then-ones-i
 unfolding mended
 returns-then-ones-i c =
     let a = c.args in
-    let m = a.symbols.now in
-    let l = c.loop-ones in
-    let n = length-layer a.shift m in
-    let k = l.invariant.1.counted in
-    less_found (layer a.shift m) (length m + 1) a.sum a.written c.ahead_of-d.result (omega arith) c.requires.2 c.if-m-written.false c.ahead_of-d.ensures l.i true (omega arith) (omega arith)
+    let m = a.summed.now.symbols.now in
+    let n = length-layer (shift_of a.summed.now.layer) m in
+    let k = c.loop-i.invariant.counted in
+    less_found (layer (shift_of a.summed.now.layer) m) (length m + 1) a.summed.now.sum a.written c.ahead_of-d.result (omega arith) c.args.summed.now.summed c.if-m-written.false c.ahead_of-d.ensures (c.loop-i.i - 1) true (omega arith) (omega arith)
 
-pub returns-then-i-eq0 : goal.returns-then-i-eq0
+pub overflow_add-ones-then-i-gt0 : goal.overflow_add-ones-then-i-gt0
+overflow_add-ones-then-i-gt0 c = omega (arith, ones_few (shift_of c.args.summed.now.layer) c.args.summed.now.symbols.now (c.loop-i.i - 1) c.loop-i.ones c.loop-i.invariant.counted)
+
+pub loop-i-preserved-then-i-gt0 : goal.loop-i-preserved-then-i-gt0
+loop-i-preserved-then-i-gt0 c =
+    let r = layer (shift_of c.args.summed.now.layer) c.args.summed.now.symbols.now in
+    let l = c.loop-i in
+    let next : suc (l.i - 1) ≡ l.i = omega arith in
+    let o = less_counted (shift_of c.args.summed.now.layer) c.args.summed.now.symbols.now c.ahead_of-d.result (l.i - 1) (l.i - 1 - 1) l.ones c.digit-ones.result (omega arith) (omega arith) c.digit-ones.ensures.0 l.invariant.counted in
+    less_turn r c.ahead_of-d.result (l.i - 1) l.ones _ (rw next l.invariant) o c.if-ones-d.false c.if-ones-i.false
+
+pub returns : goal.returns
 unfolding mended
-returns-then-i-eq0 c =
+returns c =
     let a = c.args in
-    let m = a.symbols.now in
-    let l = c.loop-ones in
-    let n = length-layer a.shift m in
-    less_none (layer a.shift m) (length m + 1) a.sum a.written c.ahead_of-d.result (omega arith) c.requires.2 c.if-m-written.false c.ahead_of-d.ensures
-    (λ j b h e. less_from (layer a.shift m) c.ahead_of-d.result l.i l.ones l.invariant.1 c.if-ones-d.false c.if-ones-i.false j b (omega arith) h e)
-
-pub digit_of-ones-requires : goal.digit_of-ones-requires
-unfolding mended
-digit_of-ones-requires c = c.requires.0
-
-pub overflow_add-ones-in-loop-ones-2 : goal.overflow_add-ones-in-loop-ones-2
-unfolding mended
-overflow_add-ones-in-loop-ones-2 c = omega (arith, ones_few c.args.shift c.args.symbols.now c.loop-ones.i c.loop-ones.ones c.loop-ones.invariant.1.counted)
-
-pub loop-ones-preserved : goal.loop-ones-preserved
-unfolding mended
-loop-ones-preserved c =
-    let a = c.args in
-    let l = c.loop-ones in
-    (omega arith, less_turn a.shift a.symbols.now c.ahead_of-d.result l.i (l.i - 1) l.ones c.digit_of-ones.result (omega arith) (omega arith) c.digit_of-ones.ensures.0 l.invariant.1 c.if-ones-d.false c.if-ones-i.false)
+    let m = a.summed.now.symbols.now in
+    let n = length-layer (shift_of a.summed.now.layer) m in
+    less_none (layer (shift_of a.summed.now.layer) m) (length m + 1) a.summed.now.sum a.written c.ahead_of-d.result (omega arith) c.args.summed.now.summed c.if-m-written.false c.ahead_of-d.ensures
+    (λ j b h. c.loop-i.invariant.tried j b (omega arith) h)

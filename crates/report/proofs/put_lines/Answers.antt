@@ -1,63 +1,43 @@
-use native.Mathlib.Omega.{arith}
-use Rattle.report.proofs.Putting.{Putting-begin, putting_Next, putting_room, Putting-turn, Putting-end}
+use Rattle.std.proofs.Common.{◌≡◌, sym, ap, subst, ◌∙◌, arith, List, ℕ, suc, ◌+◌, ◌++◌, ◌<◌, length, take, length-append}
+use Rattle.std.proofs.Math.Seq.{take-length}
+use native.Mathlib.Numerals.{add-one}
+use Rattle.code.specs.declared.Verdict.{Verdict}
+use Rattle.text.specs.Put.{Grown}
+use Rattle.text.proofs.laws.Put.{Grown-nothing, Grown-both, Grown-length}
+use Rattle.lines.specs.Report.{lines_from, segment_line}
+use Rattle.report.specs.Walked.{reported_from}
+use Rattle.report.proofs.Lines.{lines_next, lines_part}
+use Rattle.report.proofs.Outcomes.{reported_count}
+use Rattle.report.proofs.put_lines.Goals.{After-reported}
 use Rattle.report.proofs.put_lines.Goals as goal
 
 pub loop-i-init : goal.loop-i-init
-loop-i-init c = let a = c.args in Putting-begin a.verdicts.now a.ends.now a.letters.now a.out.now c.requires.reportable
+unfolding lines_from
+loop-i-init c = Grown-nothing c.args.out.now
 
-pub bounds-ends-i : goal.bounds-ends-i
-bounds-ends-i c =
-    let a = c.args in
+-- the line of the next segment
+line : (c : After-reported) → let s = c.args.segments.now in let all = reported_from 0 s.numbers s.ends c.args.letters.now in lines_from 1 (take (c.loop-i.i + 1) all) ≡ lines_from 1 (take c.loop-i.i all) ++ segment_line (c.loop-i.i + 1) c.reported.result
+line c =
+    let s = c.args.segments.now in
+    let all = reported_from 0 s.numbers s.ends c.args.letters.now in
+    let i = c.loop-i.i in
+    let n : i < length all = omega (arith, c.loop-i-test.true, ap length c.verdicts-i-end.ensures.value, reported_count 0 s.numbers s.ends c.args.letters.now c.requires.reportable) in
+    rw (add-one) (lines_next 1 all i n) ∙ (λ j. lines_from 1 (take i all) ++ segment_line ((let e : 1 + i ≡ i + 1 = omega arith in e) j) (sym c.reported.ensures j))
+
+pub put_line-requires : goal.put_line-requires
+put_line-requires c =
+    let s = c.args.segments.now in
+    let all = reported_from 0 s.numbers s.ends c.args.letters.now in
     let l = c.loop-i in
-    let next = putting_Next a.verdicts.now a.ends.now a.letters.now _ _ _ _ _ l.invariant c.loop-i-test.true in
-    next.there
-
-pub overflow_cast-to : goal.overflow_cast-to
-overflow_cast-to c = record { fits = omega (arith, c.shared_slice_known-in-loop-i-1.given c.loop-i.i) }
-
-pub slice_bounds-in_letters-count : goal.slice_bounds-in_letters-count
-slice_bounds-in_letters-count c =
-    let a = c.args in
-    let l = c.loop-i in
-    let next = putting_Next a.verdicts.now a.ends.now a.letters.now _ _ _ _ _ l.invariant c.loop-i-test.true in
-    next.starts
-
-pub slice_bounds-in_letters-start : goal.slice_bounds-in_letters-start
-slice_bounds-in_letters-start c =
-    let a = c.args in
-    let l = c.loop-i in
-    let next = putting_Next a.verdicts.now a.ends.now a.letters.now _ _ _ _ _ l.invariant c.loop-i-test.true in
-    next.starts
-
-pub slice_bounds-in_letters-end : goal.slice_bounds-in_letters-end
-slice_bounds-in_letters-end c =
-    let a = c.args in
-    let l = c.loop-i in
-    let next = putting_Next a.verdicts.now a.ends.now a.letters.now _ _ _ _ _ l.invariant c.loop-i-test.true in
-    next.stops
-
-pub in_letters-v-requires : goal.in_letters-v-requires
-in_letters-v-requires c =
-    let a = c.args in
-    let l = c.loop-i in
-    let next = putting_Next a.verdicts.now a.ends.now a.letters.now _ _ _ _ _ l.invariant c.loop-i-test.true in
-    next.inside
-
-pub put_line-end-requires : goal.put_line-end-requires
-put_line-end-requires c =
-    let a = c.args in
-    let l = c.loop-i in
-    let h = c.loop-i-test.true in
-    rw c.in_letters-v.ensures (putting_room a.verdicts.now a.ends.now a.letters.now _ _ _ _ _ l.invariant h c.requires.room)
+    omega (arith, c.requires.room, Grown-length l.invariant, l.invariant.room, ap length (line c), length-append (lines_from 1 (take l.i all)) (segment_line (l.i + 1) c.reported.result), lines_part 1 all (l.i + 1))
 
 pub loop-i-preserved : goal.loop-i-preserved
-loop-i-preserved c =
-    let a = c.args in
-    let line = simp c.in_letters-v.ensures at c.put_line-end.ensures in
-    Putting-turn a.verdicts.now a.ends.now a.letters.now _ _ _ _ _ c.loop-i.invariant c.loop-i-test.true _ _ (omega arith) line
-
-pub shape_of-out : goal.shape_of-out
-shape_of-out c = c.loop-i.invariant.same
+loop-i-preserved c = rw (line (goal.at.loop-i-preserved c).After-reported) (Grown-both c.loop-i.invariant c.put_line.ensures)
 
 pub returns : goal.returns
-returns c = let a = c.args in Putting-end a.verdicts.now a.ends.now a.letters.now _ _ _ _ _ c.loop-i.invariant (omega arith)
+returns c =
+    let s = c.args.segments.now in
+    let all = reported_from 0 s.numbers s.ends c.args.letters.now in
+    let l = c.loop-i in
+    let n : l.i ≡ length all = omega (arith, c.loop-i-test.false, ap length c.verdicts-i-end.ensures.value, reported_count 0 s.numbers s.ends c.args.letters.now c.requires.reportable) in
+    subst (λ (vs : List Verdict). Grown c.args.out.now (lines_from 1 vs) l.out) (ap (λ (i : ℕ). take i all) n ∙ take-length all) l.invariant

@@ -1,14 +1,20 @@
+use mathlib.Core.Path.{ap}
+use native.Mathlib.Omega.{arith}
+use lib.ListN.{length, replicate, length-take}
 use Rattle.code.specs.Order.{order}
+use Rattle.lines.specs.Report.{most_report}
 use Rattle.report_strand.proofs.Shown.{lines_shown, refused_shown}
 use Rattle.report_strand.proofs.put_report.Goals as goal
 
-pub returns-in-Bytes : goal.returns-in-Bytes
-returns-in-Bytes c =
-    let a = c.args in
-    lines_shown (order a.lengths.now a.b) a.letters.now a.out.now _ _ c.requires c.write-wrote.ensures _ c.in-Bytes.is
+pub put-requires : goal.put-requires
+put-requires c = omega (arith, ap length c.front.ensures, length-take c.in-Ok.n c.write.new.out, c.write.auto.out)
 
-pub returns-in-Refused : goal.returns-in-Refused
-returns-in-Refused c =
+pub returns-in-Ok : goal.returns-in-Ok
+returns-in-Ok c =
     let a = c.args in
-    let p = c.put_refused.ensures in
-    rw (← refused_shown (order a.lengths.now a.b) a.letters.now a.out.now _ _ c.requires c.write-wrote.ensures _ c.in-Refused.is) (record { ends = p.ends; text = p.text })
+    rw (← lines_shown (order a.lengths.now a.b) a.letters.now (replicate most_report 0) _ _ (omega arith) c.write.ensures _ c.in-Ok.is, ← c.front.ensures) c.put.ensures
+
+pub returns-in-Err : goal.returns-in-Err
+returns-in-Err c =
+    let a = c.args in
+    rw (← refused_shown (order a.lengths.now a.b) a.letters.now (replicate most_report 0) _ _ (omega arith) c.write.ensures _ c.in-Err.is) c.put_refused.ensures

@@ -7,13 +7,10 @@ use Rattle.scan.proofs.Search.{Turn, Compared}
 use Rattle.scan.proofs.find_clean.Given as goal
 
 abbrev pub invariant-loop-j : goal.invariant-loop-j
-invariant-loop-j l = Compared l.letters l.tail l.behind (clean l.k (letter_before l.received l.f (as_symbols l.letters) l.at) (drop l.at l.letters) (drop l.at l.letters)) l.j
-
-abbrev pub decreases-loop-j : goal.decreases-loop-j
-decreases-loop-j l = 4 + l.width - l.j
+invariant-loop-j l = Compared l.letters l.tail l.behind (clean l.k (letter_before l.given (as_symbols l.letters) l.at) (drop l.at l.letters) (drop l.at l.letters)) l.j
 
 abbrev pub invariant-starts : goal.invariant-starts
-invariant-starts l = Turn l.letters l.p l.n l.k l.wide l.received l.f l.passed l.last l.tried l.step
+invariant-starts l = Turn l.letters l.from l.centre l.k l.wide l.given l.passed l.last l.tried l.step
 
 abbrev pub decreases-starts : goal.decreases-starts
-decreases-starts l = 2 * l.n + 3 - l.tried
+decreases-starts l = 2 * l.centre + 3 - l.tried

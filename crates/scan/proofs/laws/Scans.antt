@@ -1,5 +1,6 @@
 -- Laws of the search for a clean segment: where there is no room for a clean segment, and which searches of the reading steps it is.
-use Rattle.std.specs.Prelude.{◌≡◌, refl, Bool, not, ◌&&◌, get_or, drop}
+use Rattle.std.specs.Prelude as Prelude
+use Rattle.std.specs.Prelude.{◌≡◌, refl, Bool, not, ◌&&◌, Some, None, IfSome, get_or, drop}
 use Rattle.std.proofs.Common.{sym, ◌∙◌, true≢false, lt_of_not-le, lt-ltb, length-append, length-take, take-take, drop-drop}
 use Rattle.std.proofs.Math.Path.{ap}
 use Rattle.std.proofs.Math.Bool.{true, false, cond}
@@ -176,33 +177,30 @@ symbol_at [] i = refl
 symbol_at (c ∷ letters) zero = and_mask c 2
 symbol_at (c ∷ letters) (suc i) = symbol_at letters i
 
-module _ (received : Bool) (f : ℕ) (s : List ℕ) where
-  -- counted from p, or from the front
-  pub letter_from : (p o : ℕ) → 0 < o → letter_before received f (drop p s) o ≡ letter_before received f s (p + o)
-  unfolding letter_before
-  letter_from p o h =
-      let e : p + o - 1 ≡ p + (o - 1) = omega arith in
-      rw (e, get_or-drop p s (o - 1) 0)
+-- counted from p, or from the front
+pub letter_from : (given : Prelude.Option ℕ) (s : List ℕ) (p o : ℕ) → 0 < o → letter_before given (drop p s) o ≡ letter_before given s (p + o)
+unfolding letter_before
+letter_from None s p o h =
+    let e : p + o - 1 ≡ p + (o - 1) = omega arith in
+    rw (e, get_or-drop p s (o - 1) 0)
+letter_from (Some f) s p o h = refl
 
-  pub letter_below : Below 4 s → f < 4 → (o : ℕ) → letter_before received f s o < 4
-  unfolding letter_before
-  letter_below b h o = go received
-    where
-      go : (r : Bool) → cond r (get_or s (o - 1) 0) f < 4
-      go true = b (o - 1)
-      go false = h
+pub letter_below : (given : Prelude.Option ℕ) (s : List ℕ) → Below 4 s → IfSome given (λ f. f < 4) → (o : ℕ) → letter_before given s o < 4
+unfolding letter_before
+letter_below None s b h o = b (o - 1)
+letter_below (Some f) s b h o = h
 
 -- Which searches it is
 
 -- with the received symbol, a window of step 10
 
-pub window_first : (passed k f : ℕ) (s letters os : List ℕ) (ts : List Try) → first_standing s letters (map (try_at passed k) os ++ ts) ≡ try_from passed k (first_clean k (letter_before true f s) s letters os) (first_standing s letters ts)
+pub window_first : (passed k : ℕ) (s letters os : List ℕ) (ts : List Try) → first_standing s letters (map (try_at passed k) os ++ ts) ≡ try_from passed k (first_clean k (letter_before None s) s letters os) (first_standing s letters ts)
 unfolding first_clean first_standing letter_before
-window_first passed k f s letters [] ts = refl
-window_first passed k f s letters (o ∷ os) ts = go (clean k (get_or s (o - 1) 0) (drop o s) (drop o letters)) (window_first passed k f s letters os ts)
+window_first passed k s letters [] ts = refl
+window_first passed k s letters (o ∷ os) ts = go (clean k (get_or s (o - 1) 0) (drop o s) (drop o letters)) (window_first passed k s letters os ts)
   where
     rest : Option ℕ
-    rest = first_clean k (letter_before true f s) s letters os
+    rest = first_clean k (letter_before None s) s letters os
 
     go : (b : Bool) → first_standing s letters (map (try_at passed k) os ++ ts) ≡ try_from passed k rest (first_standing s letters ts) → cond b (some (try_at passed k o)) (first_standing s letters (map (try_at passed k) os ++ ts)) ≡ try_from passed k (cond b (some o) rest) (first_standing s letters ts)
     go true h = refl
@@ -214,9 +212,9 @@ three_starts : (n : ℕ) → 1 < n → window n 1 ≡ n ∷ (n - 1) ∷ (n + 1) 
 unfolding above pairs
 three_starts n h = rw (lt-ltb 0 n (omega arith), lt-ltb 0 (n - 1) (omega arith), lt-ltb 0 (n + 1) (omega arith))
 
-pub around_first : (n k f : ℕ) (s letters : List ℕ) → 1 < n → first_clean k (letter_before false f s) s letters (window n 1) ≡ around n (first_shift (λ e. clean k f (drop (moved e n) s) (drop (moved e n) letters)))
+pub around_first : (n k f : ℕ) (s letters : List ℕ) → 1 < n → first_clean k (letter_before (Some f) s) s letters (window n 1) ≡ around n (first_shift (λ e. clean k f (drop (moved e n) s) (drop (moved e n) letters)))
 unfolding first_clean letter_before
-around_first n k f s letters h = ap (first_clean k (letter_before false f s) s letters) (three_starts n h) ∙ go (at n) (at (n - 1)) (at (n + 1))
+around_first n k f s letters h = ap (first_clean k (letter_before (Some f) s) s letters) (three_starts n h) ∙ go (at n) (at (n - 1)) (at (n + 1))
   where
     at : ℕ → Bool
     at o = clean k f (drop o s) (drop o letters)

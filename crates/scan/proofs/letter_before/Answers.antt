@@ -3,10 +3,10 @@ use Rattle.scan.specs.Scans.{letter_before}
 use Rattle.scan.proofs.laws.Scans.{symbol_at}
 use Rattle.scan.proofs.letter_before.Goals as goal
 
-pub returns-then-received : goal.returns-then-received
+pub returns-in-Some : goal.returns-in-Some
 unfolding letter_before
-returns-then-received c = let a = c.args in rw c.if-received.true (symbol_at a.letters.now (a.at - 1))
+returns-in-Some c = rw c.in-Some.is
 
-pub returns : goal.returns
+pub returns-in-None : goal.returns-in-None
 unfolding letter_before
-returns c = rw c.if-received.false
+returns-in-None c = let a = c.args in rw c.in-None.is (symbol_at a.letters.now (a.at - 1))

@@ -1,32 +1,7 @@
-use mathlib.Core.Path.{◌≡◌, subst}
-use native.Mathlib.Omega.{arith}
+use mathlib.Core.Path.{◌≡◌}
 use Rattle.code.specs.declared.Edit.TheVariants.{Sub, Del, Ins}
 use Rattle.code.specs.declared.Verdict.TheVariants.{Read, Lost}
-use Rattle.code.specs.Verdicts.{Numbered}
 use Rattle.sheet.proofs.number_of.Goals as goal
-
-pub joined-requires : goal.joined-requires
-joined-requires c =
-    let e : c.args.v ≡ Read (Sub c.in-Sub.i c.in-Sub.x) = cc in
-    let h = subst Numbered e c.requires in
-    (omega arith, h.1, h.0)
-
-pub joined-requires-in-Del : goal.joined-requires-in-Del
-joined-requires-in-Del c =
-    let e : c.args.v ≡ Read (Del c.in-Del.i c.in-Del.x) = cc in
-    let h = subst Numbered e c.requires in
-    (omega arith, h.1, h.0)
-
-pub joined-requires-in-Ins : goal.joined-requires-in-Ins
-joined-requires-in-Ins c =
-    let e : c.args.v ≡ Read (Ins c.in-Ins.i c.in-Ins.x) = cc in
-    let h = subst Numbered e c.requires in
-    (omega arith, h.1, h.0)
-
-pub joined-requires-in-Lost : goal.joined-requires-in-Lost
-joined-requires-in-Lost c =
-    let e : c.args.v ≡ Lost c.in-Lost.step = cc in
-    (omega arith, subst Numbered e c.requires, omega arith)
 
 pub returns-in-Sub : goal.returns-in-Sub
 returns-in-Sub c =

@@ -4,9 +4,6 @@ use native.Mathlib.Omega.{arith}
 use Rattle.sheet.proofs.VerdictNumbers.{mask_kind, mask_symbol, kind_rest}
 use Rattle.sheet.proofs.verdict_of.Goals as goal
 
-pub overflow_cast-x : goal.overflow_cast-x
-overflow_cast-x c = rw mask_symbol (omega arith)
-
 pub returns-in-0 : goal.returns-in-0
 returns-in-0 c =
     let n = c.args.n in

@@ -1,23 +1,18 @@
-use mathlib.Core.Path.{refl, ◌∙◌}
+use mathlib.Core.Path.{◌∙◌}
 use Prim.Native.Nat.{◌<◌}
 use native.Mathlib.Omega.{arith}
-use lib.ListN.{length, get_or, length-set}
+use lib.ListN.{length, get_or}
 use Rattle.code.proofs.laws.Lists.{write_next, write_all}
 use Rattle.code.specs.Symbols.{legible}
 use Rattle.symbols.proofs.LetterBits.{any_letter}
-use Rattle.symbols.proofs.Loops.{none_read, legible_next, one_more, length_whole, letters_next}
+use Rattle.symbols.proofs.Loops.{legible_next, one_more, length_whole, letters_next}
 use Rattle.symbols.proofs.decode_letters.Goals as goal
-
-pub loop-i-init : goal.loop-i-init
-loop-i-init c =
-    let a = c.args in
-    (omega arith, refl, refl, none_read a.letters.now, c.requires.letters)
 
 pub number_of-requires : goal.number_of-requires
 number_of-requires c =
     let l = c.loop-i in
     let a = c.args in
-    (letters_next a.unknown a.letters.now l.i (omega arith) l.invariant.4).0
+    (letters_next a.unknown a.letters.now l.i (omega arith) l.invariant.2).0
 
 pub loop-i-preserved : goal.loop-i-preserved
 loop-i-preserved c =
@@ -25,14 +20,12 @@ loop-i-preserved c =
     let a = c.args in
     let cs = a.letters.now in
     let h : l.i < length cs = omega arith in
-    let n = letters_next a.unknown cs l.i h l.invariant.4 in
+    let n = letters_next a.unknown cs l.i h l.invariant.2 in
     let k = any_letter a.unknown (get_or cs l.i 0) n.0 in
     let x = c.number_of.result in
     let e = c.number_of.ensures in (
-      omega arith,
-      simp length-set l.invariant.1,
-      rw l.invariant.2 (write_next (legible cs) _ a.out.now l.i x (legible_next cs l.i l.invariant.3 h x e k) (omega arith)),
-      one_more cs l.i l.invariant.3 h x e k,
+      rw l.invariant.0 (write_next (legible cs) _ a.out.now l.i x (legible_next cs l.i l.invariant.1 h x e k) (omega arith)),
+      one_more cs l.i l.invariant.1 h x e k,
       n.1,
     )
 
@@ -41,4 +34,4 @@ returns c =
     let l = c.loop-i in
     let a = c.args in
     let cs = a.letters.now in
-    l.invariant.2 ∙ write_all (legible cs) a.out.now l.i (length_whole cs l.i l.invariant.3 (omega arith))
+    l.invariant.0 ∙ write_all (legible cs) a.out.now l.i (length_whole cs l.i l.invariant.1 (omega arith))

@@ -4,9 +4,6 @@ use Rattle.symbols.specs.Letters.{is_letter}
 use Rattle.symbols.proofs.LetterBits.{symbol_number, unknown_letter, no_letter}
 use Rattle.symbols.proofs.symbol_of.Goals as goal
 
-pub number_of-requires : goal.number_of-requires
-number_of-requires c = sym c.is_letter.ensures ∙ c.if-is_letter.true
-
 pub returns-then-is_letter : goal.returns-then-is_letter
 returns-then-is_letter c =
     let e = c.number_of.ensures in

@@ -12,9 +12,6 @@ use Rattle.tail.proofs.tail_with.Goals as goal
 checks : {x y : Summed} → x ≡ y → x.check ≡ y.check
 checks e = ap (λ (s : Summed). s.check) e
 
-pub syndromes-s-requires : goal.syndromes-s-requires
-syndromes-s-requires c = (omega arith, omega arith, ap (λ (s : Summed). s.places) c.requires.1)
-
 pub overflow_sub-width : goal.overflow_sub-width
 overflow_sub-width c = omega (arith, c.width_of-width.ensures, width_two (length c.args.message.now) (omega arith))
 

@@ -3,13 +3,12 @@
 --   length_long, length-decimal   how many there are
 --   decimal_injective             two numbers with the same digits are equal
 --   decimal_read                  the digits of a number are read as it
-use Rattle.std.specs.Prelude.{◌≡◌, refl, true, List, [], ◌∷◌, ◌++◌, ℕ, zero, suc, ◌+◌, ◌*◌, ◌/◌, ◌%◌, ◌^◌, ◌<◌, ◌≤◌, ltb, length}
+use Rattle.std.specs.Prelude.{◌≡◌, refl, true, List, [], ◌∷◌, ◌++◌, ℕ, zero, suc, ◌+◌, ◌*◌, ◌/◌, ◌%◌, ◌^◌, ◌<◌, ◌≤◌, ltb, length, Some}
 use Rattle.std.proofs.Common.{sym, ap, ◌∙◌, arith, lt-ltb, le-ltb, le-leb, length-append}
 use Rattle.std.proofs.Math.Nat.{pow-succ'}
 use Rattle.std.proofs.Math.Decide.{dec_le}
 use Rattle.text.specs.HexDigit.{value_of, digit_of, all_digits}
 use Rattle.text.specs.Decimal.{decimal_in, decimal, number_from, number_in}
-use Rattle.text.specs.declared.decimal.Number.TheVariants.{Of}
 use Rattle.text.proofs.laws.HexDigit.{value_digit, digits_append}
 
 -- room for more gives no other digits
@@ -82,7 +81,7 @@ digits_in (suc m) n h = go (dec_le 10 n) (digits_in m (n / 10))
     go (no q) e = rw (lt-ltb n 10 (omega arith)) (rw last, omega arith)
 
 -- a number of 16 bits is read from its digits
-pub decimal_read : (n : ℕ) → n ≤ 65535 → number_in (decimal n) ≡ Of n
+pub decimal_read : (n : ℕ) → n ≤ 65535 → number_in (decimal n) ≡ Some n
 unfolding decimal
 decimal_read n h =
     let d = digits_in (suc n) n (omega arith) in

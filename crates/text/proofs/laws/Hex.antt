@@ -1,5 +1,5 @@
 -- Laws of hexadecimal digits, in the order of their definitions.
-use Rattle.std.specs.Prelude.{◌≡◌, refl, Bool, true, false, ◌&&◌, cond, List, [], ◌∷◌, ◌++◌, ℕ, zero, suc, ◌+◌, ◌*◌, ◌/◌, ◌%◌, ◌<◌, ◌≤◌, ltb, length, get_or, take, drop}
+use Rattle.std.specs.Prelude.{◌≡◌, refl, Bool, true, false, ◌&&◌, cond, List, [], ◌∷◌, ◌++◌, ℕ, zero, suc, ◌+◌, ◌*◌, ◌/◌, ◌%◌, ◌<◌, ◌≤◌, ltb, length, get_or, take, drop, Option, Some, None}
 use Rattle.std.proofs.Common.{ap, arith, add-one, take-suc}
 use borrow.Author.Tests.{ltb-true, lt-ltb, eq-eqb, le-leb}
 use Rattle.std.proofs.Math.Seq.{drop-nil}
@@ -7,8 +7,6 @@ use Rattle.code.specs.Symbols.{Below}
 use Rattle.code.specs.Buffers.{over_front}
 use Rattle.text.specs.HexDigit.{no_digit, value_of, digit_of, all_digits}
 use Rattle.text.proofs.laws.HexDigit.{value_digit}
-use Rattle.text.specs.declared.hex.Hex.{Hex}
-use Rattle.text.specs.declared.hex.Hex.TheVariants.{Bytes, Bad}
 use Rattle.text.specs.Hex.{hex_bytes, hex_digits, decodable, decode_call}
 
 -- Digits
@@ -38,7 +36,7 @@ digit_at [] e i h = absurd (omega arith)
 digit_at (c ∷ cs) e zero h = first_digit c cs e
 digit_at (c ∷ cs) e (suc i) h = digit_at cs (other_digits c cs e) i (omega arith)
 
--- Bytes of digits
+-- Some of digits
 
 pub length-hex_bytes : (cs : List ℕ) → length (hex_bytes cs) ≡ length cs / 2
 unfolding hex_bytes
@@ -108,21 +106,21 @@ hex_bytes_digits (x ∷ bs) h =
 -- what holds of digits that are decoded, and of others
 module _ (cs out after : List ℕ) where
   -- the answer and the buffer, by the test
-  abbrev answer : Bool → Hex × List ℕ
-  answer b = cond b (Bytes (length (hex_bytes cs)), over_front (hex_bytes cs) out) (Bad, out)
+  abbrev answer : Bool → Option ℕ × List ℕ
+  answer b = cond b (Some (length (hex_bytes cs)), over_front (hex_bytes cs) out) (None, out)
 
-  pub decode_good : (n : ℕ) → (Bytes n, after) ≡ decode_call cs out → (decodable cs (length out) ≡ true) × (n ≡ length (hex_bytes cs)) × (after ≡ over_front (hex_bytes cs) out)
+  pub decode_good : (n : ℕ) → (Some n, after) ≡ decode_call cs out → (decodable cs (length out) ≡ true) × (n ≡ length (hex_bytes cs)) × (after ≡ over_front (hex_bytes cs) out)
   decode_good n e = go (decodable cs (length out)) e
     where
-      go : (b : Bool) → (Bytes n, after) ≡ answer b → (b ≡ true) × (n ≡ length (hex_bytes cs)) × (after ≡ over_front (hex_bytes cs) out)
-      go true q = let f = ap (λ (p : Hex × List ℕ). p.0) q in (refl, cc, ap (λ (p : Hex × List ℕ). p.1) q)
-      go false q = let f = ap (λ (p : Hex × List ℕ). p.0) q in let z : ◌≡◌ {A = ℕ} 0 1 = cc in absurd (omega arith)
+      go : (b : Bool) → (Some n, after) ≡ answer b → (b ≡ true) × (n ≡ length (hex_bytes cs)) × (after ≡ over_front (hex_bytes cs) out)
+      go true q = let f = ap (λ (p : Option ℕ × List ℕ). p.0) q in (refl, cc, ap (λ (p : Option ℕ × List ℕ). p.1) q)
+      go false q = let f = ap (λ (p : Option ℕ × List ℕ). p.0) q in let z : ◌≡◌ {A = ℕ} 0 1 = cc in absurd (omega arith)
 
-  pub decode_bad : (Bad, after) ≡ decode_call cs out → decodable cs (length out) ≡ false
+  pub decode_bad : (None, after) ≡ decode_call cs out → decodable cs (length out) ≡ false
   decode_bad e = go (decodable cs (length out)) e
     where
-      go : (b : Bool) → (Bad, after) ≡ answer b → b ≡ false
-      go true q = let f = ap (λ (p : Hex × List ℕ). p.0) q in let z : ◌≡◌ {A = ℕ} 0 1 = cc in absurd (omega arith)
+      go : (b : Bool) → (None, after) ≡ answer b → b ≡ false
+      go true q = let f = ap (λ (p : Option ℕ × List ℕ). p.0) q in let z : ◌≡◌ {A = ℕ} 0 1 = cc in absurd (omega arith)
       go false q = refl
 
 -- what was encoded is decoded into every buffer that holds the bytes
@@ -132,5 +130,5 @@ decodable_digits bs n h room =
     rw (eq-eqb (length (hex_digits bs) % 2) 0 (omega arith), all_digits_hex bs h) (le-leb (length (hex_digits bs) / 2) n (omega arith))
 
 -- the answer and the buffer of such a decoding
-pub decode_digits : (bs d : List ℕ) → Below 256 bs → length bs ≤ length d → decode_call (hex_digits bs) d ≡ (Bytes (length bs), over_front bs d)
+pub decode_digits : (bs d : List ℕ) → Below 256 bs → length bs ≤ length d → decode_call (hex_digits bs) d ≡ (Some (length bs), over_front bs d)
 decode_digits bs d h room = rw (decodable_digits bs (length d) h room, hex_bytes_digits bs h)

@@ -1,8 +1,11 @@
 -- Laws of digits, in the order of their definitions.
-use Rattle.std.specs.Prelude.{◌≡◌, refl, Bool, true, false, ◌&&◌, List, [], ◌∷◌, ◌++◌, ℕ, ◌+◌, ◌<◌, ◌≤◌, ltb, length, get_or, drop}
-use Rattle.std.proofs.Common.{add-one, arith, lt-ltb, le-ltb, drop_of_length-le, drop-cons}
+use Rattle.std.specs.Prelude.{◌≡◌, refl, Bool, true, false, ◌&&◌, List, [], ◌∷◌, ◌++◌, ℕ, ◌+◌, ◌-◌, ◌<◌, ◌≤◌, ltb, Some, length, get_or, drop}
+use Rattle.std.proofs.lemmas.Bool.Decides.{nat_tests}
+use Rattle.std.specs.List.{list_all}
+use Rattle.std.specs.Char.{IsAsciiDigit, IsNotAsciiDigit}
+use Rattle.std.proofs.Common.{arith, lt-ltb, le-ltb, add-one, drop_of_length-le, drop-cons}
 use Rattle.std.proofs.Math.Decide.{dec_le}
-use Rattle.text.specs.HexDigit.{value_of, digit_of, all_digits}
+use Rattle.text.specs.HexDigit.{no_digit, value_of, value_in, digit_of, all_digits}
 
 low_digit : (v : ℕ) → v < 10 → value_of (digit_of v) ≡ v
 unfolding value_of digit_of
@@ -34,6 +37,28 @@ value_lower v l h =
       lt-ltb (87 + v) 103 (omega arith),
     )
     (omega arith)
+
+-- the value of a decimal digit, and that of another byte
+pub value_decimal : (c : ℕ) → IsAsciiDigit c → (value_of c ≡ c - 48) × (value_of c < 10)
+unfolding value_of
+value_decimal c h = rw (le-ltb c 48 (omega arith), lt-ltb c 58 (omega arith)) (refl, omega arith)
+
+pub value_no_decimal : (c : ℕ) → IsNotAsciiDigit c → 10 ≤ value_of c
+unfolding value_of
+value_no_decimal c h = grind (arith, nat_tests)
+
+-- a byte is a digit below a value
+abbrev pub is_below : ℕ → ℕ → Bool
+is_below n c = ltb (value_of c) n
+
+pub all_digits_all : (n : ℕ) (cs : List ℕ) → list_all (is_below n) cs ≡ all_digits n cs
+unfolding all_digits
+all_digits_all n [] = refl
+all_digits_all n (c ∷ cs) = rw (all_digits_all n cs)
+
+-- the value of a digit
+pub value_in-digit : (c : ℕ) → value_of c < no_digit → value_in c ≡ Some (value_of c)
+value_in-digit c h = rw (lt-ltb (value_of c) no_digit h)
 
 -- one byte further in a text
 pub all_digits_step : (n : ℕ) (cs : List ℕ) (i : ℕ) → i < length cs → all_digits n (drop i cs) ≡ (ltb (value_of (get_or cs i 0)) n && all_digits n (drop (i + 1) cs))

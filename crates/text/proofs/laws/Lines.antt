@@ -1,6 +1,9 @@
 -- Laws of lines, in the order of their definitions.
-use Rattle.std.specs.Prelude.{◌≡◌, refl, Bool, true, false, cond, List, [], ◌∷◌, ◌++◌, ℕ, suc, ◌+◌, ◌<◌, ◌≤◌, eqb, length, get_or, take, drop}
-use Rattle.std.proofs.Common.{sym, ap, ◌∙◌, arith, add-one, ne_eqb, drop_of_length-le, drop-cons}
+use Rattle.std.specs.Prelude.{◌≡◌, refl, Bool, true, false, cond, List, [], ◌∷◌, ◌++◌, ℕ, suc, ◌+◌, ◌<◌, ◌≤◌, eqb, ltb, length, get_or, take, drop, Some, None, unwrap_or}
+use Rattle.std.specs.List.{position}
+use Rattle.std.proofs.Common.{sym, ap, ◌∙◌, arith, ne_eqb, lt-ltb, le-ltb, drop_of_length-le, add-one, drop-cons}
+use Rattle.std.proofs.lemmas.List.Recursion.{is_position_or_len}
+use Rattle.std.proofs.Math.Decide.{dec_lt}
 use Rattle.text.specs.Lines.{feed, line_length, line, behind}
 
 -- Lengths
@@ -13,6 +16,27 @@ line_length-le (c ∷ cs) = go (eqb c feed) (line_length-le cs)
     go : (b : Bool) → line_length cs ≤ length cs → cond b 0 (suc (line_length cs)) ≤ suc (length cs)
     go true h = omega arith
     go false h = omega arith
+
+-- a byte is the line feed
+abbrev pub is_feed : ℕ → Bool
+is_feed c = eqb c feed
+
+line_length_next : (c : ℕ) (cs : List ℕ) → line_length (c ∷ cs) ≡ cond (is_feed c) 0 (1 + line_length cs)
+unfolding line_length
+line_length_next c cs = go (is_feed c)
+  where
+    go : (b : Bool) → cond b 0 (suc (line_length cs)) ≡ cond b 0 (1 + line_length cs)
+    go true = refl
+    go false = omega arith
+
+-- the place of the first line feed, or the end of the text
+pub line_length_found : (cs : List ℕ) → unwrap_or (position is_feed cs) (length cs) ≡ line_length cs
+unfolding line_length
+line_length_found cs = rw (← is_position_or_len line_length is_feed refl line_length_next cs) (go (dec_lt (line_length cs) (length cs)))
+  where
+    go : Dec (line_length cs < length cs) → unwrap_or (cond (ltb (line_length cs) (length cs)) (Some (line_length cs)) None) (length cs) ≡ line_length cs
+    go (yes h) = rw (lt-ltb (line_length cs) (length cs) h)
+    go (no h) = rw (le-ltb (line_length cs) (length cs) (omega arith)) (omega (arith, line_length-le cs))
 
 -- one byte further in a text
 pub line_length_step : (cs : List ℕ) (i : ℕ) → i < length cs → line_length (drop i cs) ≡ cond (eqb (get_or cs i 0) feed) 0 (suc (line_length (drop (i + 1) cs)))

@@ -1,5 +1,6 @@
-use mathlib.Core.Bool.{true}
-use Prim.Native.Nat.{ℕ, ◌^◌, ◌≤◌, ◌<◌}
+use mathlib.Core.Bool.{true, false}
+use mathlib.Core.Path.{◌≡◌, ap, ◌∙◌}
+use Prim.Native.Nat.{ℕ, ◌-◌, ◌^◌, ◌≤◌, ◌<◌}
 use mathlib.Core.List.{List}
 use native.Mathlib.Omega.{arith}
 use lib.ListN.{length}
@@ -14,34 +15,30 @@ use Rattle.writer.proofs.extent_of.Goals as goal
 small : (ks : List ℕ) → Lengths most_length ks → length ks ≤ most_segments → extent true ks < 2 ^ 16
 small ks h l = omega (arith, extent_line ks h, sum_most ks h)
 
-pub overflow_cast-lengths : goal.overflow_cast-lengths
-overflow_cast-lengths c = record { fits = omega (arith, (Lengths-at c.args.lengths.now c.loop-i.i c.requires.0 c.loop-i-test.true).1) }
-
 pub size_of-n-requires : goal.size_of-n-requires
 size_of-n-requires c =
-    let k = Lengths-at c.args.lengths.now c.loop-i.i c.requires.0 c.loop-i-test.true in
+    let k = Lengths-at c.args.lengths.now c.loop-k.k-index c.requires.0 c.loop-k-test.true in
     (omega (arith, k.0), omega (arith, k.1))
 
 pub overflow_add-n : goal.overflow_add-n
 overflow_add-n c =
     let ks = c.args.lengths.now in
-    let l = c.loop-i in
-    record { fits = omega (arith, l.invariant.1, extent_turn ks l.i c.loop-i-test.true, c.size_of-n.ensures, small ks c.requires.0 c.requires.2) }
+    let l = c.loop-k in
+    record { fits = omega (arith, l.invariant, extent_turn ks l.k-index c.loop-k-test.true, c.size_of-n.ensures, small ks c.requires.0 c.requires.2) }
 
-pub loop-i-smaller : goal.loop-i-smaller
-loop-i-smaller c = omega (arith, c.loop-i-test.true)
-
-pub loop-i-preserved : goal.loop-i-preserved
-loop-i-preserved c =
-    let l = c.loop-i in
-    (omega (arith, c.loop-i-test.true), omega (arith, l.invariant.1, extent_turn c.args.lengths.now l.i c.loop-i-test.true, c.size_of-n.ensures))
+pub loop-k-preserved : goal.loop-k-preserved
+loop-k-preserved c =
+    let l = c.loop-k in
+    omega (arith, l.invariant, extent_turn c.args.lengths.now l.k-index c.loop-k-test.true, c.size_of-n.ensures)
 
 pub overflow_sub-result : goal.overflow_sub-result
 overflow_sub-result c =
-    let l = c.loop-i in
-    omega (arith, l.invariant.1, extent_end c.args.lengths.now l.i (omega (arith, c.loop-i-test.false)), extent_first c.args.lengths.now c.requires.1)
+    let ks = c.args.lengths.now in
+    let l = c.loop-k in
+    omega (arith, l.invariant, extent_end ks l.k-index c.loop-k-test.false, extent_first ks c.requires.1)
 
 pub returns : goal.returns
 returns c =
-    let l = c.loop-i in
-    omega (arith, l.invariant.1, extent_end c.args.lengths.now l.i (omega (arith, c.loop-i-test.false)), extent_first c.args.lengths.now c.requires.1)
+    let ks = c.args.lengths.now in
+    let l = c.loop-k in
+    omega (arith, l.invariant, extent_end ks l.k-index c.loop-k-test.false, extent_first ks c.requires.1)

@@ -1,64 +1,71 @@
-use mathlib.Core.Path.{◌≡◌, sym, ◌∙◌}
-use mathlib.Core.Bool.{false, not}
+use Rattle.std.proofs.Common.{rules}
+use Rattle.std.specs.Prelude.{Ok}
+use mathlib.Core.Path.{◌≡◌, sym, ap, ◌∙◌}
+use mathlib.Core.Bool.{Bool, false, not}
 use mathlib.Core.List.{List}
 use Prim.Native.Nat.{ℕ, ◌≤◌}
 use native.Mathlib.Omega.{arith}
 use lib.Dec.{eqb}
 use lib.ListN.{length}
-use Rattle.code.specs.declared.Checked.TheVariants.{Fine}
-use Rattle.code.specs.declared.Wrote.TheVariants as W
 use Rattle.code.specs.Layout.{extent}
-use Rattle.code.specs.Order.{order, order_test}
+use Rattle.code.specs.Order.{Order, order, order_test}
 use Rattle.code.specs.Buffers.{over_front}
 use Rattle.code.specs.Writing.{strand_of, write_call}
 use Rattle.code.proofs.laws.Order.{Ordered, order_fine}
-use Rattle.code.proofs.laws.Layout.{Lengths-within}
 use Rattle.code.proofs.laws.Writing.{write_refused, write_short, write_fine, ordered-length}
-use Rattle.writer.proofs.write.Goals.{Else-out-n, In_default}
+use Rattle.writer.proofs.write.Goals.{Else-out-n, In_ok-order}
 use Rattle.writer.proofs.write.Goals as goal
 
 -- tests 1 to 3 are not met
-taken : (c : In_default) → order_test (order c.args.lengths.now c.args.b) (not (eqb (length c.args.message.now) c.args.b)) Fine ≡ Fine
-taken c = sym c.order_test-tested.ensures ∙ c.in_default.is
+taken : (c : In_ok-order) → order_test (order c.args.lengths.now c.args.b) (not (eqb (length c.args.message.now) c.args.b)) (Ok tt) ≡ Ok tt
+taken c =
+    let t = c.in_ok-order.ensures in
+    ap (λ (other : Bool). order_test (order c.args.lengths.now c.args.b) other (Ok tt)) t.same ∙ ap (λ (o : Order). order_test o false (Ok tt)) (sym t.ok) ∙ t.taken
 
-ordered : (c : In_default) → Ordered (order c.args.lengths.now c.args.b) (not (eqb (length c.args.message.now) c.args.b))
-ordered c = order_fine (order c.args.lengths.now c.args.b) (not (eqb (length c.args.message.now) c.args.b)) (taken c)
+-- the message has B bytes
+size : (c : In_ok-order) → length c.args.message.now ≡ c.args.b
+size c = ordered-length (order c.args.lengths.now c.args.b) c.args.message.now 0 (taken c)
 
--- how many bytes the message has, and that the strand fits
-room : (c : Else-out-n) → (length c.args.message.now ≡ c.args.b) × (extent false c.args.lengths.now ≤ length c.args.out.now)
-room c = (ordered-length (order c.args.lengths.now c.args.b) c.args.message.now 0 (sym c.order_test-tested.ensures ∙ c.in_default.is), omega (arith, c.extent_of-n.ensures, c.if-out-n.false))
+-- the strand's letters, and that they fit
+extent_is : (c : Else-out-n) → c.extent_of-n.result ≡ extent false c.args.lengths.now
+extent_is c = c.extent_of-n.ensures ∙ ap (extent false) c.lengths.ensures.value ∙ ap (λ (o : Order). extent false o.lengths) c.in_ok-order.ensures.ok
 
 -- what is written
-told : (c : Else-out-n) (after : List ℕ) → after ≡ over_front (strand_of c.args.lengths.now c.args.message.now) c.args.out.now → (W.Bytes c.extent_of-n.result, after) ≡ write_call (order c.args.lengths.now c.args.b) c.args.message.now c.args.out.now
-told c after w =
-    let t = write_fine (order c.args.lengths.now c.args.b) c.args.message.now (length c.args.out.now) (sym c.order_test-tested.ensures ∙ c.in_default.is) (room c).1 in
-    rw t (λ i. (W.Bytes (c.extent_of-n.ensures i), w i))
+told : (c : Else-out-n) (after : List ℕ) → order_test (order c.args.lengths.now c.args.b) (not (eqb (length c.args.message.now) c.args.b)) (Ok tt) ≡ Ok tt → after ≡ over_front (strand_of c.in_ok-order.order.lengths c.args.message.now) c.args.out.now → (Ok c.extent_of-n.result, after) ≡ write_call (order c.args.lengths.now c.args.b) c.args.message.now c.args.out.now
+told c after e w =
+    let t = write_fine (order c.args.lengths.now c.args.b) c.args.message.now (length c.args.out.now) e (omega (arith, extent_is c, c.if-out-n.false)) in
+    let v = w ∙ ap (λ (o : Order). over_front (strand_of o.lengths c.args.message.now) c.args.out.now) c.in_ok-order.ensures.ok in
+    rw t (λ i. (Ok (extent_is c i), v i))
 
-pub returns-in-Refused : goal.returns-in-Refused
-returns-in-Refused c =
-    let e = sym c.order_test-tested.ensures ∙ c.in-Refused.is in
-    rw (write_refused (order c.args.lengths.now c.args.b) c.args.message.now (length c.args.out.now) _ e)
-
-pub extent_of-n-requires : goal.extent_of-n-requires
-extent_of-n-requires c = let o = ordered c in (o.lengths, o.some_segments, o.segments_fit)
+pub returns-in_err-order : goal.returns-in_err-order
+returns-in_err-order c = rw (write_refused (order c.args.lengths.now c.args.b) c.args.message.now (length c.args.out.now) _ c.in_err-order.ensures.err) (search rules)
 
 pub returns-then-out-n : goal.returns-then-out-n
-returns-then-out-n c = rw (write_short (order c.args.lengths.now c.args.b) c.args.message.now (length c.args.out.now) (taken (goal.at.returns-then-out-n c).In_default) (omega (arith, c.extent_of-n.ensures, c.if-out-n.true)))
+returns-then-out-n c =
+    let n = c.extent_of-n.ensures ∙ ap (extent false) c.lengths.ensures.value ∙ ap (λ (o : Order). extent false o.lengths) c.in_ok-order.ensures.ok in
+    rw (write_short (order c.args.lengths.now c.args.b) c.args.message.now (length c.args.out.now) (taken (goal.at.returns-then-out-n c).In_ok-order) (omega (arith, n, c.if-out-n.true)))
 
 pub write_letters-requires : goal.write_letters-requires
 write_letters-requires c =
-    let o = ordered (goal.at.write_letters-requires c).In_default in
-    let r = room (goal.at.write_letters-requires c).Else-out-n in
-    record { lengths = (Lengths-within o.lengths (omega arith), omega (arith, r.0, c.if-b-le-SHORT_BYTES.true), omega (arith, r.0, o.bytes_fit)); room = (omega (arith, r.0, o.whole), r.1) }
+    let m = size (goal.at.write_letters-requires c).In_ok-order in
+    record {
+      message = m ∙ ap (λ (o : Order). o.b) (sym c.in_ok-order.ensures.ok);
+      symbols = (omega (arith, m, c.if-b-le-SHORT_BYTES.true), omega arith);
+      room = omega (arith, c.extent_of-n.ensures, ap (extent false) c.lengths.ensures.value, c.if-out-n.false);
+    }
 
 pub returns-then-b-le-SHORT_BYTES : goal.returns-then-b-le-SHORT_BYTES
-returns-then-b-le-SHORT_BYTES c = told (goal.at.returns-then-b-le-SHORT_BYTES c).Else-out-n _ c.write_letters.ensures
+returns-then-b-le-SHORT_BYTES c = told (goal.at.returns-then-b-le-SHORT_BYTES c).Else-out-n _ (taken (goal.at.returns-then-b-le-SHORT_BYTES c).In_ok-order) c.write_letters.ensures
 
-pub write_letters-requires-2 : goal.write_letters-requires-2
-write_letters-requires-2 c =
-    let o = ordered (goal.at.write_letters-requires-2 c).In_default in
-    let r = room (goal.at.write_letters-requires-2 c).Else-out-n in
-    record { lengths = (Lengths-within o.lengths (omega arith), omega (arith, r.0, o.bytes_fit), omega (arith, r.0, o.bytes_fit)); room = (omega (arith, r.0, o.whole), r.1) }
+pub write_letters-requires-else-b-le-SHORT_BYTES : goal.write_letters-requires-else-b-le-SHORT_BYTES
+write_letters-requires-else-b-le-SHORT_BYTES c =
+    let i = (goal.at.write_letters-requires-else-b-le-SHORT_BYTES c).In_ok-order in
+    let m = size i in
+    record {
+      message = m ∙ ap (λ (o : Order). o.b) (sym c.in_ok-order.ensures.ok);
+      symbols = (omega (arith, m, (order_fine (order c.args.lengths.now c.args.b) _ (taken i)).bytes_fit), omega arith);
+      room = omega (arith, c.extent_of-n.ensures, ap (extent false) c.lengths.ensures.value, c.if-out-n.false);
+    }
 
-pub returns : goal.returns
-returns c = told (goal.at.returns c).Else-out-n _ c.write_letters-2.ensures
+pub returns-else-b-le-SHORT_BYTES : goal.returns-else-b-le-SHORT_BYTES
+returns-else-b-le-SHORT_BYTES c = told (goal.at.returns-else-b-le-SHORT_BYTES c).Else-out-n _ (taken (goal.at.returns-else-b-le-SHORT_BYTES c).In_ok-order) c.write_letters-else-b-le-SHORT_BYTES.ensures

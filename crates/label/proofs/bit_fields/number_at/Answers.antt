@@ -2,7 +2,6 @@ use mathlib.Core.Path.{◌≡◌, sym}
 use Prim.Native.Nat.{◌+◌, ◌*◌, ◌/◌, ◌%◌}
 use native.Mathlib.Omega.{arith}
 use lib.ListN.{get_or}
-use lib.Pow.{pow_pos}
 use Rattle.code.specs.Symbols.{Below}
 use Rattle.label.proofs.Fields.{two_field, one_shift}
 use Rattle.label.proofs.bit_fields.number_at.Goals.{After-byte_at-2}
@@ -11,14 +10,6 @@ use Rattle.label.proofs.bit_fields.number_at.Goals as goal
 -- every byte is below 256
 small : (c : After-byte_at-2) → Below 256 c.args.bytes.now
 small c = λ i. omega (arith, c.shared_slice_known-1.given i)
-
-pub overflow_add-two : goal.overflow_add-two
-overflow_add-two c =
-    let i = c.args.at in
-    omega (arith, c.byte_at.ensures, c.byte_at-2.ensures, small c (i / 8), small c (i / 8 + 1))
-
-pub nonzero_rem-result-2 : goal.nonzero_rem-result-2
-nonzero_rem-result-2 c = rw (one_shift c.args.width (omega arith)) (pow_pos c.args.width)
 
 pub returns : goal.returns
 returns c =

@@ -1,31 +1,16 @@
+use Rattle.std.specs.Prelude.{Ok}
 use mathlib.Core.Path.{◌≡◌, refl, sym, ◌∙◌}
 use mathlib.Core.List.{◌++◌}
-use Prim.Native.Nat.{◌+◌, ◌-◌, ◌*◌, ◌%◌, ◌^◌, ◌≤◌, ◌<◌}
-use native.Mathlib.Nat.{mul-le-mul}
+use Prim.Native.Nat.{◌+◌, ◌-◌, ◌*◌, ◌%◌, ◌^◌, ◌<◌}
 use native.Mathlib.Omega.{arith}
 use borrow.Author.Tests.{lt-ltb, le-ltb}
 use lib.ListN.{length, get_or, drop, length-set}
-use lib.Pow.{pow_mono}
-use Rattle.code.specs.declared.Wrote.TheVariants as W
 use Rattle.code.specs.Layers.{bits}
 use Rattle.code.proofs.laws.Lists.{write_next, write_all, drop_next}
 use Rattle.code.specs.Label.{in_bits, in_bytes, bytes_for}
-use Rattle.label.proofs.Putting.{put_length, up, up_below, put_begin, put_fill, put_byte}
+use Rattle.label.proofs.Putting.{put_length, up, put_begin, put_fill, put_byte}
 use Rattle.label.proofs.bit_fields.put_bits.Goals.{After-slice_known-1}
 use Rattle.label.proofs.bit_fields.put_bits.Goals as goal
-
--- how many bits the lengths have
-few : (c : After-slice_known-1) → c.args.width * length c.args.lengths.now ≤ 16 * 64
-few c = mul-le-mul c.requires.widths.2 c.requires.lengths.1
-
-pub overflow_mul-n : goal.overflow_mul-n
-overflow_mul-n c = omega (arith, few c)
-
-pub overflow_add-n : goal.overflow_add-n
-overflow_add-n c = omega (arith, few c)
-
-pub overflow_add-n-2 : goal.overflow_add-n-2
-overflow_add-n-2 c = omega (arith, few c)
 
 pub returns-then-out-n : goal.returns-then-out-n
 returns-then-out-n c =
@@ -38,15 +23,6 @@ pub loop-j-init : goal.loop-j-init
 loop-j-init c =
     let a = c.args in
     (omega arith, omega arith, refl, refl, put_begin a.count a.first a.width a.lengths.now _ (omega arith) (omega arith))
-
-pub overflow_add-held : goal.overflow_add-held
-overflow_add-held c =
-    let l = c.loop-j in
-    let w = c.args.width in
-    omega (arith, up l.held w c.requires.widths.2, up_below l.held w c.requires.widths.2, c.length_at.ensures, c.requires.lengths.0 l.i, pow_mono c.requires.widths.2)
-
-pub overflow_add-i : goal.overflow_add-i
-overflow_add-i c = omega (arith, c.loop-j.invariant.4.inside)
 
 pub loop-j-preserved-then-left-lt8 : goal.loop-j-preserved-then-left-lt8
 loop-j-preserved-then-left-lt8 c =
@@ -78,4 +54,4 @@ returns c =
     let l = c.loop-j in
     let t = in_bytes (bits a.count a.first ++ in_bits a.width a.lengths.now) in
     let n = put_length a.count a.first a.width a.lengths.now in
-    rw (le-ltb (length a.out.now) (length t) (omega arith)) (λ i. (W.Bytes (sym n i), (l.invariant.3 ∙ write_all t a.out.now l.j (omega arith)) i))
+    rw (le-ltb (length a.out.now) (length t) (omega arith)) (λ i. (Ok (sym n i), (l.invariant.3 ∙ write_all t a.out.now l.j (omega arith)) i))

@@ -1,9 +1,6 @@
 use borrow.Author.Rules.{rules}
-use Rattle.places.proofs.SignedOffsets.{even_offset, odd_fits, odd_offset}
+use Rattle.places.proofs.SignedOffsets.{even_offset, odd_offset}
 use Rattle.places.proofs.offsets.offset.Goals as goal
-
-pub overflow_sub-result : goal.overflow_sub-result
-overflow_sub-result c = odd_fits c.args.i (search rules) c.if-i-eq1.true
 
 pub returns-then-i-eq1 : goal.returns-then-i-eq1
 returns-then-i-eq1 c = odd_offset c.args.i (search rules) c.if-i-eq1.true

@@ -1,62 +1,43 @@
 use native.Mathlib.Omega.{arith}
-use Rattle.code.proofs.laws.Lists.{first_rest}
+use Rattle.code.proofs.laws.Letters.{as_length}
 use Rattle.steps.proofs.Step10.{size_marked, Sought-begin, sought_end, sought_past, sought_small, sought_found, Sought-on}
 use Rattle.steps.proofs.step_10.scan_behind.Goals as goal
 
-pub loop-later-init : goal.loop-later-init
-loop-later-init c =
+pub loop-passed-init : goal.loop-passed-init
+loop-passed-init c =
     let a = c.args in
-    Sought-begin a.letters.now a.p a.marked a.k a.rest.now c.requires.place.1 c.requires.lengths _ c.size_of-centre.ensures
-
-pub overflow_add-p : goal.overflow_add-p
-overflow_add-p c = let i = c.loop-later.invariant in omega (arith, i.near)
+    Sought-begin a.strand.now a.start a.k a.rest.now c.requires _ c.size_of-centre.ensures
 
 -- all that is left to try has no room
-pub returns-then-letters-wide : goal.returns-then-letters-wide
-returns-then-letters-wide c = let both = sought_past c.loop-later.invariant c.requires.place.0 c.if-letters-wide.true in record { start = both.0; known = both.1 }
-
--- the length of the segment that is sought
-pub overflow_cast-sought : goal.overflow_cast-sought
-overflow_cast-sought c =
-    let l = c.loop-later in
-    let e = sought_small l.invariant c.requires.place.0 _ _ (first_rest l.later.now (omega (arith, c.loop-later-test.true))) in
-    record { fits = omega (arith, e.1) }
+pub returns-then-strand-wide : goal.returns-then-strand-wide
+returns-then-strand-wide c = let both = sought_past c.loop-passed.invariant c.requires c.if-strand-wide.true in record { start = both.0; known = both.1 }
 
 pub find_clean-next-requires : goal.find_clean-next-requires
 find_clean-next-requires c =
-    let l = c.loop-later in
-    let i = l.invariant in
-    let e = sought_small i c.requires.place.0 _ _ (first_rest l.later.now (omega (arith, c.loop-later-test.true))) in
-    record { received = c.requires.received; window = (c.requires.place.0, omega (arith, i.far), omega (arith, i.near, i.far, c.if-letters-wide.false)); length = (e, omega arith) }
+    let i = c.loop-passed.invariant in
+    let n = as_length _ _ c.args.strand.now.read in
+    record { received = omega (arith, n, c.args.strand.now.received.short); window = (omega (arith, n, c.requires.inside), omega (arith, i.far), omega (arith, i.near, i.far, c.if-strand-wide.false, n, c.args.strand.now.received.short)); length = (sought_small i c.requires c.loop-passed-test.true, omega arith) }
+
+pub size_of-centre-requires-in-loop-passed : goal.size_of-centre-requires-in-loop-passed
+size_of-centre-requires-in-loop-passed c = let e = sought_small c.loop-passed.invariant c.requires c.loop-passed-test.true in (omega (arith, e.0, c.requires.message.0), omega (arith, e.1, c.requires.message.1))
+
+pub overflow_add-centre : goal.overflow_add-centre
+overflow_add-centre c =
+    let e = sought_small c.loop-passed.invariant c.requires c.loop-passed-test.true in
+    omega (arith, c.loop-passed.invariant.near, c.size_of-centre-in-loop-passed.ensures, (size_marked _ e).1, (size_marked c.args.k c.requires.message).1)
 
 -- it stands
 pub returns-in-Clean : goal.returns-in-Clean
 returns-in-Clean c =
-    let l = c.loop-later in
     let r = c.find_clean-next in
-    let both = sought_found l.invariant c.requires.place.0 _ _ (first_rest l.later.now (omega (arith, c.loop-later-test.true))) r.result r.ensures _ _ _ c.in-Clean.is in record { start = both.0; known = both.1 }
-
-pub size_of-centre-requires-in-loop-later : goal.size_of-centre-requires-in-loop-later
-size_of-centre-requires-in-loop-later c =
-    let l = c.loop-later in
-    let e = sought_small l.invariant c.requires.place.0 _ _ (first_rest l.later.now (omega (arith, c.loop-later-test.true))) in
-    (omega (arith, e.0, c.requires.place.1), omega (arith, e.1, c.requires.place.1))
-
-pub overflow_add-centre : goal.overflow_add-centre
-overflow_add-centre c =
-    let l = c.loop-later in
-    let e = sought_small l.invariant c.requires.place.0 _ _ (first_rest l.later.now (omega (arith, c.loop-later-test.true))) in
-    omega (arith, l.invariant.near, c.size_of-centre-in-loop-later.ensures, (size_marked _ e).1, (size_marked c.args.k c.requires.place.1).1)
-
-pub overflow_add-passed : goal.overflow_add-passed
-overflow_add-passed c = let i = c.loop-later.invariant in omega (arith, i.near, i.far)
+    let both = sought_found c.loop-passed.invariant c.requires c.loop-passed-test.true r.result r.ensures _ _ _ c.in-Clean.is in
+    record { start = both.0; known = both.1 }
 
 -- it does not
-pub loop-later-preserved : goal.loop-later-preserved
-loop-later-preserved c =
-    let l = c.loop-later in
+pub loop-passed-preserved : goal.loop-passed-preserved
+loop-passed-preserved c =
     let r = c.find_clean-next in
-    Sought-on l.invariant c.requires.place.0 _ _ (first_rest l.later.now (omega (arith, c.loop-later-test.true))) r.result r.ensures c.in_default.not-Clean (omega (arith, c.if-letters-wide.false)) _ c.size_of-centre-in-loop-later.ensures
+    Sought-on c.loop-passed.invariant c.requires c.loop-passed-test.true r.result r.ensures c.in_default.not-Clean (omega (arith, c.if-strand-wide.false, c.args.strand.now.received.short, as_length _ _ c.args.strand.now.read)) _ c.size_of-centre-in-loop-passed.ensures
 
 pub returns : goal.returns
-returns c = let both = sought_end c.loop-later.invariant c.requires.place.0 (omega (arith, c.loop-later-test.false)) in record { start = both.0; known = both.1 }
+returns c = let both = sought_end c.loop-passed.invariant c.requires (omega (arith, c.loop-passed-test.false)) in record { start = both.0; known = both.1 }
