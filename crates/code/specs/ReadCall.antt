@@ -20,7 +20,7 @@ use Rattle.code.specs.declared.Decoded.{Decoded}
 use Rattle.code.specs.declared.Decoded.TheVariants as D
 use Rattle.code.specs.declared.Refusal.TheVariants.{Overlong, ShortBuffer, ForeignLetter, NoSuchSegment}
 use Rattle.code.specs.declared.Counts.{Counts}
-use Rattle.std.specs.declared.ops.Range.{Range}
+use Rattle.code.specs.declared.Span.{Span}
 use Rattle.code.specs.Symbols.{legible, decoded, bytes}
 use Rattle.code.specs.Layout.{sum}
 use Rattle.code.specs.Limits.{most_letters}
@@ -106,9 +106,9 @@ piece_call o cs i =
     (λ r. ([], (number_of r, place_of r)))
 
 -- where the piece behind the first i pieces stands
-abbrev pub located_as : List Outcome → ℕ → Result (Range ℕ) Refusal
+abbrev pub located_as : List Outcome → ℕ → Result Span Refusal
 located_as os i = Ok (record { start = piece_start os i; end = piece_start os i + piece_length os i })
 
 -- where the piece of segment i stands, or the refusal
-abbrev pub locate_call : Order → List ℕ → ℕ → Result (Range ℕ) Refusal
+abbrev pub locate_call : Order → List ℕ → ℕ → Result Span Refusal
 locate_call o cs i = unless_refused (piece_test o cs i) (located_as (outcomes_of o cs) (i - 1)) Err

@@ -92,6 +92,13 @@ pub struct Counts {
     pub lost: u32,
 }
 
+// Where a piece stands: from its first letter to behind its last. A Range can't be copied.
+#[derive(Clone, Copy, Debug, PartialEq, Eq)]
+pub struct Span {
+    pub start: usize,
+    pub end: usize,
+}
+
 // The order of a label that is read: B, and the layout, which is the first `count` of `lengths`.
 #[derive(Clone, Copy, Debug, PartialEq, Eq)]
 pub struct Labelled {

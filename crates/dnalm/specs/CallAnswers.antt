@@ -17,7 +17,7 @@ use Rattle.code.specs.declared.Quote.{Quote}
 use Rattle.code.specs.declared.Letter.{Letter}
 use Rattle.code.specs.declared.Letter.TheVariants.{Symbol, Unknown, Foreign}
 use Rattle.code.specs.declared.Counts as code_counts
-use Rattle.std.specs.declared.ops.Range.{Range}
+use Rattle.code.specs.declared.Span.{Span}
 use Rattle.code.specs.declared.Verdict.{Verdict}
 use Rattle.code.specs.declared.Labelled.{Labelled}
 use Rattle.code.specs.declared.Tally as code_tally
@@ -54,7 +54,7 @@ from_counted (Ok n) = record { refusal = 0; place = 0; clean = n.clean; correcte
 from_counted (Err r) = record { refusal = number_of r; place = place_of r; clean = 0; corrected = 0; lost = 0 }
 
 -- the answer of a piece call
-abbrev pub from_located : Result (Range ℕ) Refusal → Piece
+abbrev pub from_located : Result Span Refusal → Piece
 from_located (Ok at) = record { refusal = 0; place = 0; start = at.start; length = at.end - at.start }
 from_located (Err r) = record { refusal = number_of r; place = place_of r; start = 0; length = 0 }
 

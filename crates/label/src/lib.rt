@@ -30,7 +30,9 @@ fn put_listing(edition: Edition, order: &Order, out: &mut [u8]) -> Result<usize,
     put_bits(first, 4 + width + 7, edition.length_bits(), lengths, out)
 }
 
-// Writes an order that is not too large for the old editions: in edition 1 for equal lengths, in 2 for others.
+// Writes an order that is not too large for the old editions: in edition 1 for equal lengths, in 2 for others. Inlined, since the call costs a third of
+// a short label.
+#[inline(always)]
 fn put_old(order: &Order, out: &mut [u8]) -> Result<usize, Refusal>
     requires { L.too_large order.now ≡ false }
     ensures { (result, out.new) ≡ put_call (old_bits order.now) out.old }

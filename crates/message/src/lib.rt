@@ -31,16 +31,17 @@ pub enum Shift {
 }
 
 impl Shift {
-    // A place moved by the shift.
+    // A place with the shift added, a small signed number.
     pub fn moved(self, place: usize) -> usize
         requires { (1 ≤ place) × (place < reach) }
         ensures { result ≡ moved (shift_as self) place }
     {
-        match self {
-            Shift::Level => place,
-            Shift::Early => place - 1,
-            Shift::Late => place + 1,
-        }
+        let j: isize = match self {
+            Shift::Level => 0,
+            Shift::Early => -1,
+            Shift::Late => 1,
+        };
+        (place as isize + j) as usize
     }
 }
 
@@ -55,14 +56,13 @@ pub fn find_separator(s: &[u8], d: usize, k: usize) -> Option<Shift>
     requires { Received s.now × Length k × (d ≤ length s.now + 2) }
     ensures { result ≡ separator_as (separator_at k (drop d s.now)) }
 {
-    let level = d + k + 1;
-    if three_equal(s, level) {
+    if three_equal(s, d + Shift::Level.moved(k + 1)) {
         return Some(Shift::Level);
     }
-    if three_equal(s, level - 1) {
+    if three_equal(s, d + Shift::Early.moved(k + 1)) {
         return Some(Shift::Early);
     }
-    if three_equal(s, level + 1) {
+    if three_equal(s, d + Shift::Late.moved(k + 1)) {
         return Some(Shift::Late);
     }
     None

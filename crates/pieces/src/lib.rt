@@ -2,30 +2,29 @@
 
 #![tactic(auto)]
 
-ghost use Rattle.std.specs.Prelude.{◌≡◌, ◌*◌, ◌<◌, ◌≤◌, length};
+ghost use Rattle.std.specs.Prelude.{Ok, ◌≡◌, ◌*◌, ◌<◌, ◌≤◌, length};
 ghost use Rattle.code.specs.Bounds.{reach};
-ghost use Rattle.code.specs.Limits.{most_letters};
 ghost use Rattle.code.specs.Order.{order};
-ghost use Rattle.code.specs.ReadCall.{piece_call, locate_call};
+ghost use Rattle.code.specs.ReadCall.{received_test, piece_call, locate_call};
 
-use code::Refusal;
+use code::{Refusal, Span};
 use reading::segments::Segments;
 use refusal::order::Order;
-use std::ops::Range;
+use refusal::received_test;
 use symbols::letters::Letters;
 use symbols::{SHORT_BYTES, SHORT_LETTERS};
 
-// Makes the tests 4, 6 and 9 and locates a piece in a strand of at most L letters, with at most S symbols of messages.
+// Makes the tests 6 and 9 and locates a piece in a strand of at most L letters that tests 1 to 4 take, with at most S symbols of messages.
 fn locate_within<const L: usize, const S: usize>(
     order: &Order,
     letters: &[u8],
     segment: u32,
-) -> Result<Range<usize>, Refusal>
-    requires letters { (length letters.now ≤ most_letters → length letters.now ≤ L) × (L < reach) }
+) -> Result<Span, Refusal>
+    requires received { received_test order.now (length letters.now) (Ok tt) ≡ Ok tt }
+    requires letters { (length letters.now ≤ L) × (L < reach) }
     requires symbols { (4 * order.now.b ≤ S) × (S < reach) }
     ensures { result ≡ locate_call order.now letters.now segment }
 {
-    order.received(letters.len())?;
     let mut numbers = [0u8; L];
     let letters = Letters::read(letters, &mut numbers)?;
     let i = order.index_of(segment)?;
@@ -38,15 +37,11 @@ fn locate_within<const L: usize, const S: usize>(
 // Answers where the piece of a segment starts and where it ends, the segments being counted from 1; for callers that take places
 // and not a part.
 // Turned down, in this order: 1 to 4 and 6 as for a reading; 9 there is no such segment.
-pub fn locate(
-    lengths: &[u16],
-    b: u32,
-    letters: &[u8],
-    segment: u32,
-) -> Result<Range<usize>, Refusal>
+pub fn locate(lengths: &[u16], b: u32, letters: &[u8], segment: u32) -> Result<Span, Refusal>
     ensures { let o = order lengths.now b in result ≡ locate_call o letters.now segment }
 {
-    let order = Order::new(lengths, b)?;
+    received_test(lengths, b, letters.len())?;
+    let order = Order::known(lengths, b);
     if letters.len() <= SHORT_LETTERS && b <= SHORT_BYTES {
         locate_within::<1280, 512>(&order, letters, segment)
     } else {

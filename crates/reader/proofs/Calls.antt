@@ -1,7 +1,7 @@
 -- What the reading call uses.
 --   room       buffers that are not too short
 --   promised   both clauses of the promise, from the first
-use Rattle.std.specs.Prelude.{Ok, Result}
+use Rattle.std.specs.Prelude.{Result}
 use mathlib.Core.Path.{◌≡◌}
 use mathlib.Core.Bool.{false}
 use mathlib.Core.List.{List}
@@ -11,12 +11,10 @@ use lib.Dec.{ltb}
 use lib.ListN.{length}
 use Rattle.code.specs.declared.Counts.{Counts}
 use Rattle.code.specs.declared.Refusal.{Refusal}
-use Rattle.code.specs.Symbols.{legible}
 use Rattle.code.specs.Order.{Order}
 use Rattle.code.proofs.laws.Refusals.{or-false}
-use Rattle.code.specs.Strands.{outcomes}
 use Rattle.code.specs.Sheet.{sheet_bytes}
-use Rattle.code.specs.ReadCall.{short_buffers, read_test, read_as, read_call}
+use Rattle.code.specs.ReadCall.{short_buffers, read_call}
 use Rattle.code.specs.ReadDemand.{Demand3Call}
 use Rattle.code.proofs.laws.ReadDemand.{demand_3_call}
 

@@ -4,15 +4,15 @@
 
 ghost use Rattle.std.specs.Prelude.{Ok, ◌≡◌, ◌<◌, false, ◌*◌, ◌≤◌, length};
 ghost use Rattle.code.specs.Bounds.{reach};
-ghost use Rattle.code.specs.Limits.{most_letters};
 ghost use Rattle.code.specs.Order.{order};
 ghost use Rattle.code.specs.Strands.{outcomes};
-ghost use Rattle.code.specs.ReadCall.{short_buffers, read_as, read_call};
+ghost use Rattle.code.specs.ReadCall.{received_test, short_buffers, read_as, read_call};
 ghost use Rattle.code.specs.ReadDemand.{Demand3Call};
 
 use code::{Counts, Refusal};
 use reading::segments::Segments;
 use refusal::order::Order;
+use refusal::received_test;
 use symbols::letters::Letters;
 use symbols::{SHORT_BYTES, SHORT_LETTERS};
 
@@ -42,18 +42,18 @@ fn read_segments<const S: usize>(
     sheet::counts_of(&marks[..l])
 }
 
-// Makes the tests 4 to 6 and reads a strand of at most L letters, with at most S symbols of messages.
+// Makes the tests 5 and 6 and reads a strand of at most L letters that tests 1 to 4 take, with at most S symbols of messages.
 fn read_within<const L: usize, const S: usize>(
     order: &Order,
     letters: &[u8],
     message: &mut [u8],
     sheet: &mut [u8],
 ) -> Result<Counts, Refusal>
-    requires letters { (length letters.now ≤ most_letters → length letters.now ≤ L) × (L < reach) }
+    requires received { received_test order.now (length letters.now) (Ok tt) ≡ Ok tt }
+    requires letters { (length letters.now ≤ L) × (L < reach) }
     requires symbols { (4 * order.now.b ≤ S) × (S < reach) }
     ensures { (result, (message.new, sheet.new)) ≡ read_call order.now letters.now message.old sheet.old }
 {
-    order.received(letters.len())?;
     if order.is_short_for(message.len(), sheet.len()) {
         return Err(Refusal::ShortBuffer);
     }
@@ -83,7 +83,8 @@ pub fn read(
     ensures one_edit { let o = order lengths.now b in
         Demand3Call o letters.now message.old sheet.old (result, (message.new, sheet.new)) }
 {
-    let order = Order::new(lengths, b)?;
+    received_test(lengths, b, letters.len())?;
+    let order = Order::known(lengths, b);
     if letters.len() <= SHORT_LETTERS && b <= SHORT_BYTES {
         read_within::<1280, 512>(&order, letters, message, sheet)
     } else {

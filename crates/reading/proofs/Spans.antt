@@ -4,10 +4,10 @@
 --   span_start   where it starts
 --   span_inside  it ends inside the letters
 use mathlib.Core.Path.{◌≡◌, refl, sym, ap, ◌∙◌}
-use mathlib.Core.List.{List, [], ◌∷◌, ◌++◌}
+use mathlib.Core.List.{List, [], ◌∷◌}
 use Prim.Native.Nat.{ℕ, zero, suc, ◌+◌, ◌≤◌, ◌<◌}
 use native.Mathlib.Omega.{arith}
-use lib.ListN.{length, get_or, drop, replicate, length-append, length-drop, get_or-append}
+use lib.ListN.{length, get_or, length-append}
 use Rattle.code.specs.Layout.{sum, joined}
 use Rattle.code.specs.Strands.{Outcome, outcomes}
 use Rattle.code.proofs.laws.Strands.{length-outcomes, joined_pieces}

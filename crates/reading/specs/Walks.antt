@@ -5,7 +5,7 @@
 --   Found       what is said of the segments, and where they end
 --   Told        the same, as a value
 --   start_in    where a piece starts, by the ends
-use Rattle.std.specs.Prelude.{◌≡◌, List, [], ◌∷◌, map, ℕ, zero, suc, ◌+◌, ◌*◌, ◌≤◌, length, get_or}
+use Rattle.std.specs.Prelude.{◌≡◌, List, [], ◌∷◌, map, ℕ, zero, suc, ◌+◌, length, get_or}
 use Rattle.code.specs.Layout.{sum}
 use Rattle.code.specs.Strands.{Outcome, outcomes, messages_of, verdicts_of}
 use Rattle.code.specs.Verdicts.{verdict_number}

@@ -7,10 +7,11 @@ pub mod segments;
 ghost use Rattle.std.specs.Prelude.{◌≡◌, true, false, ◌*◌, ◌≤◌, length};
 ghost use Rattle.code.specs.Symbols.{has_unknown};
 ghost use Rattle.code.specs.Limits.{most_letters};
+ghost use Rattle.code.specs.Buffers.{over_front};
 ghost use Rattle.code.specs.Bounds.{longest};
 ghost use Rattle.code.specs.Layout.{Lengths};
 ghost use Rattle.code.specs.Order.{order, Taken};
-ghost use Rattle.code.specs.Strands.{told};
+ghost use Rattle.code.specs.Strands.{outcomes, messages_of, told};
 ghost use Rattle.code.specs.Verdicts.{verdict_number, verdict_of};
 ghost use Rattle.reading.specs.Walks.{Lent, Walked, Found, start_in};
 
@@ -116,7 +117,7 @@ pub fn read_layout(
     }
 }
 
-// Reads the segments of an order for the numbers of their verdicts and where each ends; their messages are left in `symbols`.
+// Reads the segments of an order for the numbers of their verdicts and where each ends; their messages go to the front of `symbols`.
 pub fn read_order(
     lengths: &[u16],
     b: u32,
@@ -128,7 +129,8 @@ pub fn read_order(
 )
     requires received { (length letters.now ≤ most_letters) × (unknown ≡ has_unknown letters.now) × (4 * b ≤ length symbols.old) }
     requires taken { Taken (order lengths.now b) × (length verdicts.old ≡ length lengths.now) × (length ends.old ≡ length lengths.now) }
-    ensures { Found lengths.now letters.now verdicts.new ends.new }
+    ensures found { Found lengths.now letters.now verdicts.new ends.new }
+    ensures messages { symbols.new ≡ over_front (messages_of (outcomes lengths.now letters.now)) symbols.old }
 {
     let n = 4 * b as usize;
     read_layout(lengths, letters, unknown, &mut symbols[..n], verdicts, ends)

@@ -6,14 +6,14 @@ ghost use Rattle.code.specs.Strands.{outcomes, messages_of, verdicts_of};
 ghost use Rattle.code.specs.Verdicts.{verdict_number};
 ghost use Rattle.reading.specs.Walks.{ends_from, start_in};
 
-use crate::{read_layout, start_of};
+use crate::{read_order, start_of};
+use code::Span;
 use refusal::order::Order;
 use std::marker::Model;
-use std::ops::Range;
 use symbols::letters::Letters;
 
-// The verdicts of an order's segments as numbers, and where their pieces end, in arrays that are lent. Numbers, since an array of verdicts takes longer to
-// fill than a short strand to read; apart from the ends, since they go on alone.
+// The verdicts of an order's segments as numbers, and where their pieces end, in arrays that are lent. Numbers, since an array of verdicts takes about
+// three times as long to fill; apart from the ends, since they go on alone.
 #[derive(Drop)]
 pub struct Segments<'a> {
     pub(crate) verdicts: &'a [u32],
@@ -47,13 +47,13 @@ impl<'a> Segments<'a> {
         ensures places { result.ends ≡ ends_from 0 (outcomes order.now.lengths letters.now) }
     {
         let lengths = order.lengths();
-        let n = order.symbols();
         let l = lengths.len();
-        read_layout(
+        read_order(
             lengths,
+            order.bytes(),
             letters.numbers(),
             letters.has_unknown(),
-            &mut symbols[..n],
+            symbols,
             &mut verdicts[..l],
             &mut ends[..l],
         );
@@ -72,10 +72,13 @@ impl<'a> Segments<'a> {
     }
 
     // Where the piece behind the first i stands: it starts where the one before it ends.
-    pub fn span(&self, i: usize) -> Range<usize>
+    pub fn span(&self, i: usize) -> Span
         requires { i < length self.now.ends }
         ensures { result ≡ record { start = start_in self.now.ends i; end = get_or self.now.ends i 0 } }
     {
-        start_of(self.ends, i)..self.ends[i] as usize
+        Span {
+            start: start_of(self.ends, i),
+            end: self.ends[i] as usize,
+        }
     }
 }

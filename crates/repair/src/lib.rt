@@ -14,7 +14,8 @@ ghost use Rattle.repair.specs.LayerRepair.{ahead, lowest, mended_layer, past_all
 pub mod summed;
 
 use crate::summed::SummedLayer;
-use code::{Fix, Link};
+pub use code::Fix;
+use code::Link;
 use layers::Layer;
 
 // The least number that leads from a to b modulo m.

@@ -1,26 +1,22 @@
 -- What the report calls use.
 --   short_report, whole_report     what a report of lines answers
 --   report_foreign, report_whole   the tests of a report behind 1 to 4, in their order
-use Rattle.std.specs.Prelude.{Result, Ok, Err}
-use Rattle.code.specs.declared.Refusal.{Refusal}
-use mathlib.Core.Path.{◌≡◌, ap, ◌∙◌}
+use Rattle.std.specs.Prelude.{Ok, Err}
+use mathlib.Core.Path.{◌≡◌, ◌∙◌}
 use mathlib.Core.Bool.{Bool}
 use mathlib.Core.List.{List}
-use Prim.Native.Nat.{ℕ, ◌-◌, ◌≤◌, ◌<◌}
+use Prim.Native.Nat.{ℕ, ◌≤◌, ◌<◌}
 use borrow.Author.Tests.{lt-ltb, le-ltb}
 use lib.ListN.{length}
 use Rattle.code.specs.declared.Decoded.TheVariants as D
 use Rattle.code.specs.declared.Refusal.TheVariants.{ShortBuffer, ForeignLetter}
-use Rattle.code.specs.declared.Verdict.{Verdict}
-use Rattle.code.specs.Symbols.{legible, decoded}
+use Rattle.code.specs.Symbols.{decoded}
 use Rattle.code.specs.Refusals.{refuse}
 use Rattle.code.specs.Order.{Order}
 use Rattle.code.specs.Buffers.{over_front}
-use Rattle.code.specs.Strands.{outcomes}
-use Rattle.code.specs.ReadCall.{received_test, piece_test}
+use Rattle.code.specs.ReadCall.{received_test}
 use Rattle.code.proofs.laws.ReadCall.{received_then}
-use Rattle.lines.specs.Report.{lines_of}
-use Rattle.report.specs.ReportCall.{report_of, short_for, report_test, report_as, report_call, reported_at, verdict_call}
+use Rattle.report.specs.ReportCall.{report_of, short_for, report_test, report_as}
 
 module _ (lines out : List ℕ) where
   -- the buffer is too short

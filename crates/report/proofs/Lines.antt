@@ -1,7 +1,7 @@
 -- The lines of the first verdicts.
 --   lines_next   one line more
 --   lines_part   they are no longer than all lines
-use Rattle.std.proofs.Common.{◌≡◌, refl, sym, ap, ◌∙◌, arith, List, [], ◌∷◌, ◌++◌, ℕ, zero, suc, ◌+◌, ◌≤◌, ◌<◌, length, get_or, take, append_assoc, append-nil, length-append}
+use Rattle.std.proofs.Common.{◌≡◌, sym, ap, ◌∙◌, arith, List, [], ◌∷◌, ◌++◌, ℕ, zero, suc, ◌+◌, ◌≤◌, ◌<◌, length, get_or, take, append_assoc, append-nil, length-append}
 use Rattle.code.specs.declared.Verdict.{Verdict}
 use Rattle.code.specs.declared.Verdict.TheVariants.{NoStart}
 use Rattle.lines.specs.Report.{segment_line, lines_from}

@@ -7,8 +7,8 @@ use mathlib.Core.Bool.{false}
 use mathlib.Core.List.{List, [], ◌∷◌, ◌++◌, map}
 use Prim.Native.Nat.{ℕ, zero, suc, ◌+◌, ◌-◌, ◌≤◌, ◌<◌}
 use native.Mathlib.Omega.{arith}
-use lib.ListN.{length, get_or, take, drop, length-append, length-map, length-take, length-drop}
-use lib.Seq.{length-take-le, take_at, drop_at, drop-drop, get_or-take}
+use lib.ListN.{length, get_or, drop, length-append, length-drop}
+use lib.Seq.{take_at, drop_at, drop-drop}
 use Rattle.code.specs.Symbols.{Below, letter_kinds, legible}
 use Rattle.code.proofs.laws.Symbols.{legible-Below}
 use Rattle.code.specs.Order.{Order, Taken}
@@ -19,7 +19,7 @@ use Rattle.code.specs.Bounds.{longest}
 use Rattle.code.specs.Verdicts.{verdict_number, verdict_of}
 use Rattle.code.proofs.laws.Verdicts.{verdict_back, AllNumbered, outcomes_numbered}
 use Rattle.code.specs.Strands.{Outcome, outcomes, verdicts_of}
-use Rattle.code.proofs.laws.Strands.{length-outcomes, joined_pieces}
+use Rattle.code.proofs.laws.Strands.{joined_pieces}
 use Rattle.code.specs.ReadCall.{pieces_of}
 use Rattle.code.specs.declared.Verdict.{Verdict}
 use Rattle.code.specs.declared.Verdict.TheVariants.{NoStart}

@@ -2,9 +2,9 @@
 
 #![tactic(auto)]
 
-ghost use Rattle.std.specs.Prelude.{◌≡◌, ◌*◌, ◌<◌, ◌≤◌, length, get_or};
+ghost use Rattle.std.specs.Prelude.{Ok, ◌≡◌, ◌*◌, ◌<◌, ◌≤◌, length, get_or};
 ghost use Rattle.code.specs.Bounds.{reach};
-ghost use Rattle.code.specs.Limits.{most_letters};
+ghost use Rattle.code.specs.ReadCall.{received_test};
 ghost use Rattle.code.specs.Order.{order};
 ghost use Rattle.code.specs.declared.Verdict.TheVariants.{NoStart};
 ghost use Rattle.code.specs.Verdicts.{verdict_of};
@@ -17,6 +17,7 @@ use code::{Edit, Refusal, Verdict};
 use lines::put_line;
 use reading::segments::Segments;
 use refusal::order::Order;
+use refusal::received_test;
 use sheet::verdict_of;
 use symbols::letters::Letters;
 use symbols::{SHORT_BYTES, SHORT_LETTERS};
@@ -56,18 +57,18 @@ fn put_lines(out: &mut Text, segments: &Segments, letters: &[u8])
     }
 }
 
-// Makes the tests 4, 6 and 5 and reports a strand of at most L letters, with at most S symbols of messages. The lines are formed apart, since only then
-// their number of bytes is known.
+// Makes the tests 6 and 5 and reports a strand of at most L letters that tests 1 to 4 take, with at most S symbols of messages. The lines are formed
+// apart, since only then their number of bytes is known.
 fn write_within<const L: usize, const S: usize>(
     order: &Order,
     letters: &[u8],
     out: &mut [u8],
 ) -> Result<usize, Refusal>
-    requires letters { (length letters.now ≤ most_letters → length letters.now ≤ L) × (L < reach) }
+    requires received { received_test order.now (length letters.now) (Ok tt) ≡ Ok tt }
+    requires letters { (length letters.now ≤ L) × (L < reach) }
     requires symbols { (4 * order.now.b ≤ S) × (S < reach) }
     ensures { (result, out.new) ≡ report_call order.now letters.now out.old }
 {
-    order.received(letters.len())?;
     let mut numbers = [0u8; L];
     let letters = Letters::read(letters, &mut numbers)?;
     let mut verdicts = [0; 64];
@@ -81,7 +82,7 @@ fn write_within<const L: usize, const S: usize>(
     if out.len() < n {
         return Err(Refusal::ShortBuffer);
     }
-    out[..n].copy_from_slice(bytes);
+    copying::put(bytes, out, 0);
     Ok(n)
 }
 
@@ -94,7 +95,8 @@ fn write_within<const L: usize, const S: usize>(
 pub fn write(lengths: &[u16], b: u32, letters: &[u8], out: &mut [u8]) -> Result<usize, Refusal>
     ensures { let o = order lengths.now b in (result, out.new) ≡ report_call o letters.now out.old }
 {
-    let order = Order::new(lengths, b)?;
+    received_test(lengths, b, letters.len())?;
+    let order = Order::known(lengths, b);
     if letters.len() <= SHORT_LETTERS && b <= SHORT_BYTES {
         write_within::<1280, 512>(&order, letters, out)
     } else {
@@ -102,17 +104,17 @@ pub fn write(lengths: &[u16], b: u32, letters: &[u8], out: &mut [u8]) -> Result<
     }
 }
 
-// Makes the tests 4, 6 and 9 and tells a verdict of a strand of at most L letters, with at most S symbols of messages.
+// Makes the tests 6 and 9 and tells a verdict of a strand of at most L letters that tests 1 to 4 take, with at most S symbols of messages.
 fn verdict_within<const L: usize, const S: usize>(
     order: &Order,
     letters: &[u8],
     segment: u32,
 ) -> Result<Verdict, Refusal>
-    requires letters { (length letters.now ≤ most_letters → length letters.now ≤ L) × (L < reach) }
+    requires received { received_test order.now (length letters.now) (Ok tt) ≡ Ok tt }
+    requires letters { (length letters.now ≤ L) × (L < reach) }
     requires symbols { (4 * order.now.b ≤ S) × (S < reach) }
     ensures { result ≡ verdict_call order.now letters.now segment }
 {
-    order.received(letters.len())?;
     let mut numbers = [0u8; L];
     let letters = Letters::read(letters, &mut numbers)?;
     let i = order.index_of(segment)?;
@@ -127,7 +129,8 @@ fn verdict_within<const L: usize, const S: usize>(
 pub fn verdict(lengths: &[u16], b: u32, letters: &[u8], segment: u32) -> Result<Verdict, Refusal>
     ensures { let o = order lengths.now b in result ≡ verdict_call o letters.now segment }
 {
-    let order = Order::new(lengths, b)?;
+    received_test(lengths, b, letters.len())?;
+    let order = Order::known(lengths, b);
     if letters.len() <= SHORT_LETTERS && b <= SHORT_BYTES {
         verdict_within::<1280, 512>(&order, letters, segment)
     } else {

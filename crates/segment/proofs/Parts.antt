@@ -1,5 +1,4 @@
 -- A segment that is being written, by its parts.
---   put_both                          two neighbouring blocks are one
 --   Bits                              the syndrome symbols that are written, from the last on
 --   mark-true, mark-false, mark-size  the marker, and a segment's length
 --   put_parts                         marker, message and tail are the segment
@@ -12,7 +11,8 @@ use lib.Bits.{bit_and}
 use lib.ListN.{length, get_or, take, drop, set, length-append, length-set}
 use lib.Seq.{take-suc, length-take-le, set_at}
 use Rattle.code.specs.Buffers.{put_at}
-use Rattle.code.proofs.laws.Lists.{put_nothing, put_put}
+use Rattle.code.proofs.laws.Lists.{put_nothing}
+use Rattle.copying.proofs.Blocks.{put_both}
 use Rattle.code.specs.Layers.{pair, bits, width}
 use Rattle.code.specs.Segment.{sep, marker, segment, size}
 use Rattle.tail.specs.declared.Tail.{Tail}
@@ -30,10 +30,6 @@ put_before d b n v h =
     let q : n + length (v ∷ b) ≡ suc n + length b = omega arith in
     let parts : ((take n d ++ x ∷ []) ++ b) ++ r ≡ take n d ++ x ∷ (b ++ r) = append_assoc (take n d ++ x ∷ []) b r ∙ append_assoc (take n d) (x ∷ []) (b ++ r) in
     rw (take-suc d n 0 h, q) (ap (λ (l : List ℕ). set l n v) parts ∙ (set_at (take n d) x (b ++ r) v n t ∙ sym (append_assoc (take n d) (v ∷ b) r)))
-
--- two neighbouring blocks are one
-pub put_both : (d b c : List ℕ) (at n : ℕ) → n ≡ at + length b → n ≤ length d → put_at (put_at d at b) n c ≡ put_at d at (b ++ c)
-put_both d b c at n e h = rw e (put_put d at b (omega arith) c)
 
 module _ (d : List ℕ) (at high low t : ℕ) where
   -- the symbols from place i on are written; those before it are of what is left of both numbers

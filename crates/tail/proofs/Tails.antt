@@ -1,6 +1,7 @@
 -- What the functions on tails use.
 --   is_tail        the parts that make a tail
 --   tail_symbols   a message and its tail are the block
+--   tail_Below     a tail's symbols are symbols
 --   tail_last      the last symbol of a segment
 --   tail_width     the width of a tail
 --   marked_block   a segment is its marker and its block
@@ -15,7 +16,7 @@ use Rattle.code.specs.Bounds.{widest, Length}
 use Rattle.code.specs.Layers.{bit, digit, layer, syndrome, number, pair, bits, width}
 use Rattle.code.proofs.laws.Layers.{length-layer, length-bits, length-pair, bits-number, pair_layers, width-Least}
 use Rattle.code.specs.Segment.{check, sep, separator, syndrome_of, block, segment, last_of}
-use Rattle.code.proofs.laws.Segment.{syndrome_symbols_Below, width_two}
+use Rattle.code.proofs.laws.Segment.{check_below, separator-Apart, syndrome_symbols_Below, width_two}
 use Rattle.layers.specs.declared.Layers.{Layers}
 use Rattle.layers.specs.LayerSums.{both}
 use Rattle.tail.specs.declared.Tail.{Tail}
@@ -47,6 +48,14 @@ module _ (m : List ℕ) (t : Tail) (e : IsTail m t) where
   pub tail_symbols : m ++ tail_of t ≡ block m
   unfolding tail_of block
   tail_symbols = rw (e.check, e.separator, e.symbols)
+
+  pub tail_Below : Below 4 (tail_of t)
+  unfolding tail_of
+  tail_Below zero = omega (arith, e.check, check_below m)
+  tail_Below (suc zero) = omega (arith, e.separator, (separator-Apart m).below)
+  tail_Below (suc (suc zero)) = omega (arith, e.separator, (separator-Apart m).below)
+  tail_Below (suc (suc (suc zero))) = omega (arith, e.separator, (separator-Apart m).below)
+  tail_Below (suc (suc (suc (suc i)))) = rw e.symbols (syndrome_symbols_Below m i)
 
   pub tail_last : 2 ≤ length m → get_or (tail_of t) (3 + t.width) 0 ≡ last_of m
   unfolding tail_of last_of

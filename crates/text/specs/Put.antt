@@ -2,8 +2,8 @@
 --   text_of   the text so far
 --   Spare     a buffer holds a text and so many bytes more
 --   Room      the same for the bytes of another text
+--   Appended  a buffer after text is put behind its first bytes
 --   Grown     a text after more is put behind it
---   Appended  the same, said of buffers
 use Rattle.std.specs.Prelude.{◌≡◌, List, ◌++◌, ℕ, ◌+◌, ◌≤◌, length, take}
 use Rattle.text.specs.declared.put.Text.{Text}
 
@@ -19,13 +19,13 @@ Spare t n = length (text_of t) + n ≤ length t.out.now
 abbrev pub Room : Text → List ℕ → Type 0
 Room t more = Spare t (length more)
 
--- the text after more is put behind it, in the same buffer
-pub record Grown (before : Text) (more : List ℕ) (after : Text) : Type 0 where
-  pub text : text_of after ≡ text_of before ++ more
-  pub room : length after.out.now ≡ length before.out.now
-  pub same : after.out.ghost_name ≡ before.out.ghost_name
-
--- the same of buffers: a buffer after `more` is put behind the first `at` bytes of the buffer before, up to `end`
+-- of buffers: a buffer after `more` is put behind the first `at` bytes of the buffer before, up to `end`
 pub record Appended (before : List ℕ) (at : ℕ) (more after : List ℕ) (end : ℕ) : Type 0 where
   pub ends : end ≡ at + length more
   pub text : take end after ≡ take at before ++ more
+
+-- the text after more is put behind it, in the same buffer
+pub record Grown (before : Text) (more : List ℕ) (after : Text) : Type 0 where
+  pub appended : Appended before.out.now before.end more after.out.now after.end
+  pub room : length after.out.now ≡ length before.out.now
+  pub same : after.out.ghost_name ≡ before.out.ghost_name

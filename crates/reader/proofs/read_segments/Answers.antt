@@ -6,7 +6,6 @@ use native.Mathlib.Omega.{arith}
 use lib.ListN.{length, drop, replicate}
 use Rattle.code.specs.Symbols.{bytes}
 use Rattle.code.proofs.laws.Symbols.{length-bytes}
-use Rattle.code.proofs.laws.Order.{order_fine}
 use Rattle.code.specs.Sheet.{marks_of, sheet_of, counts_of, sheet_bytes}
 use Rattle.code.specs.Strands.{outcomes, messages_of, verdicts_of}
 use Rattle.code.specs.Verdicts.{verdict_number, verdict_of}

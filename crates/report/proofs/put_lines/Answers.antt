@@ -1,4 +1,4 @@
-use Rattle.std.proofs.Common.{◌≡◌, sym, ap, subst, ◌∙◌, arith, List, ℕ, suc, ◌+◌, ◌++◌, ◌<◌, length, take, length-append}
+use Rattle.std.proofs.Common.{◌≡◌, sym, ap, subst, ◌∙◌, arith, List, ℕ, ◌+◌, ◌++◌, ◌<◌, length, take, length-append}
 use Rattle.std.proofs.Math.Seq.{take-length}
 use native.Mathlib.Numerals.{add-one}
 use Rattle.code.specs.declared.Verdict.{Verdict}

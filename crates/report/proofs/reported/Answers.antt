@@ -1,6 +1,5 @@
-use Rattle.std.proofs.Common.{◌≡◌, sym, ap, ◌∙◌, arith, ℕ, get_or}
-use Rattle.std.specs.declared.ops.Range.{Range}
-use Rattle.code.specs.declared.Verdict.TheVariants.{NoStart}
+use Rattle.std.proofs.Common.{◌≡◌, ap, ◌∙◌, arith, get_or}
+use Rattle.code.specs.declared.Span.{Span}
 use Rattle.reading.specs.Walks.{start_in}
 use Rattle.report.specs.Walked.{reported_from}
 use Rattle.report.proofs.Outcomes.{Stands, reported_stands, ends_count}
@@ -12,10 +11,10 @@ stands : (c : Start) → let s = c.args.segments.now in let l = c.args.letters.n
 stands c = reported_stands c.args.segments.now.numbers c.args.segments.now.ends c.args.letters.now c.args.i c.requires.reportable c.requires.there
 
 starts : (c : After-span-span) → c.span-span.result.start ≡ start_in c.args.segments.now.ends c.args.i
-starts c = ap (λ (r : Range ℕ). r.start) c.span-span.ensures
+starts c = ap (λ (r : Span). r.start) c.span-span.ensures
 
 stops : (c : After-span-span) → c.span-span.result.end ≡ get_or c.args.segments.now.ends c.args.i 0
-stops c = ap (λ (r : Range ℕ). r.end) c.span-span.ensures
+stops c = ap (λ (r : Span). r.end) c.span-span.ensures
 
 pub span-span-requires : goal.span-span-requires
 span-span-requires c =

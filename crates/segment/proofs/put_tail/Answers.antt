@@ -5,7 +5,7 @@ use native.Mathlib.Omega.{arith}
 use Rattle.code.specs.Buffers.{put_at}
 use Rattle.tail.specs.Tails.{syndrome_in}
 use Rattle.tail.proofs.Tails.{tail_parts}
-use Rattle.segment.proofs.Parts.{put_both}
+use Rattle.copying.proofs.Blocks.{put_both}
 use Rattle.segment.proofs.put_tail.Goals as goal
 
 pub returns : goal.returns
