@@ -1,4 +1,5 @@
 -- Laws of growing text.
+use Rattle.std.proofs.lemmas.List.{length-take-le}
 use Rattle.std.proofs.Common.{sym, ap, ◌∙◌, append_assoc, append-nil, length-append, arith}
 use Rattle.std.specs.Prelude.{◌≡◌, refl, List, [], ◌++◌, ℕ, ◌+◌, length, take}
 use Rattle.text.specs.declared.put.Text.{Text}
@@ -19,6 +20,18 @@ Appended-both {d} {e} {f} {x} {y} {at} {m} {n} p q =
     }
 
 -- Of texts
+
+-- a text is grown by more where it is the text before with more behind it, in the same buffer
+pub text_Grown : {s t : Text} {x : List ℕ} → text_of t ≡ text_of s ++ x → length t.out.now ≡ length s.out.now → t.out.ghost_name ≡ s.out.ghost_name → Grown s x t
+text_Grown {s} {t} {x} text room same =
+    record {
+      appended = record {
+        ends = omega (arith, ap length text, length-append (text_of s) x, length-take-le s.end s.out.now s.within, length-take-le t.end t.out.now t.within);
+        text = text;
+      };
+      room = room;
+      same = same;
+    }
 
 -- nothing is put
 pub Grown-nothing : (t : Text) → Grown t [] t
